@@ -2,36 +2,20 @@
 
 import { deepEqual, equal } from "node:assert/strict";
 import { copyFileSync } from "node:fs";
-import node from "node:test";
 import { dice } from "./random.mjs";
+import { opened, test } from "./providing.mjs";
 import { room, startServer } from "./serving.mjs";
 import { fileStore } from "../file_store.mjs";
-import { Provider } from "../provider.mjs";
-
-const providers = new Set();
-
-const test = (name, work) => node(name, { timeout: 900_000 }, async (t) => {
-  try {
-    await work(t);
-  } finally {
-    await Promise.allSettled([...providers].map((provider) => provider.close()));
-    providers.clear();
-  }
-});
 
 /** A provider of a store's file.
  *  @param {string} file
  *  @param {string} at
  *  @param {string} document */
-async function opened(file, at, document) {
-  const store = fileStore(file);
-  const provider = await Provider.open({ document, at, store, isOnline: false, word: "me" });
-  providers.add(provider);
-  return { file, provider };
-}
+const storeOf = async (file, at, document) =>
+  ({ file, provider: await opened(at, { document, store: fileStore(file), isOnline: false, word: "me" }) });
 
 /** Appends a text to the list, and adds a vote: two edits.
- *  @param {{provider: Provider}} it
+ *  @param {{provider: import("../provider.mjs").Provider}} it
  *  @param {string} text */
 function edit({ provider: { replica } }, text) {
   replica.splice([0, "list"], replica.items([0, "list"]).length, 0, [text]);
@@ -46,7 +30,7 @@ const online = async (all) => {
 const listed = ({ provider: { replica } }) => replica.items([0, "list"]).map(([, [text]]) => text).sort();
 
 /** Whether each edit is everywhere exactly once, also where it is opened anew.
- *  @param {{file: string, provider: Provider}[]} all
+ *  @param {{file: string, provider: import("../provider.mjs").Provider}[]} all
  *  @param {string[]} texts
  *  @param {string} words */
 async function check(all, texts, words) {
@@ -62,7 +46,7 @@ async function check(all, texts, words) {
  *  @param {string} at
  *  @param {string} document */
 async function begun(file, at, document) {
-  const it = await opened(file, at, document);
+  const it = await storeOf(file, at, document);
   it.provider.replica.assign([0, "list"], []);
   edit(it, "base");
   await online([it]);
@@ -80,11 +64,11 @@ test("a store copied while it is edited: whoever is online first, each edit is t
     const folder = room();
     let me = await begun(`${folder}/store`, address, documents[at]);
     if (isAnew) await me.provider.close();
-    if (isAnew) me = await opened(me.file, address, documents[at]);
+    if (isAnew) me = await storeOf(me.file, address, documents[at]);
     edit(me, "before 1");
     edit(me, "before 2");
     copyFileSync(me.file, `${folder}/copy`);
-    const copy = await opened(`${folder}/copy`, address, documents[at]);
+    const copy = await storeOf(`${folder}/copy`, address, documents[at]);
     edit(me, "original 1");
     const texts = ["base", "before 1", "before 2", "original 1"];
     if (isEdited) for (const text of ["copy 1", "copy 2"]) {
@@ -104,7 +88,7 @@ test("a store that is read alone goes on under its name, also behind a kill", as
   const { name } = me.provider.replica;
   edit(me, "stored");
   await me.provider.close();
-  const again = await opened(me.file, address, "d");
+  const again = await storeOf(me.file, address, "d");
   equal(again.provider.replica.name, name);
 });
 
@@ -131,13 +115,13 @@ async function round(seed) {
       async () => {
         if (all.length > 5) return;
         copyFileSync(it.file, `${folder}/${all.length}`);
-        all.push(await opened(`${folder}/${all.length}`, address, "d"));
+        all.push(await storeOf(`${folder}/${all.length}`, address, "d"));
       },
       () => it.provider.goOnline(),
       () => it.provider.goOffline(),
       async () => {
         await it.provider.close();
-        it.provider = (await opened(it.file, address, "d")).provider;
+        it.provider = (await storeOf(it.file, address, "d")).provider;
       },
       () => online(all.filter(() => chance(0.4))),
     ];
@@ -162,8 +146,8 @@ test("votes alike in the original and in copies, made while it was open or close
     vote(me, 2);
     if (how === "closed") await me.provider.close();
     for (const name of ["one", "two"]) copyFileSync(file, `${file}-${name}`);
-    if (how === "closed") me = await opened(file, address, documents[at]);
-    const copies = ["one", "two"].map((name) => opened(`${file}-${name}`, address, documents[at]));
+    if (how === "closed") me = await storeOf(file, address, documents[at]);
+    const copies = ["one", "two"].map((name) => storeOf(`${file}-${name}`, address, documents[at]));
     const all = [me, ...await Promise.all(copies)];
     for (const it of all) vote(it, 3);
     await online([all[first]]);
