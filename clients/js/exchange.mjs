@@ -1,6 +1,6 @@
 /* The exchange of a replica with servers. */
 
-import { copiedBy, copyPlace } from "./copies.mjs";
+import { Comparison, copyPlace } from "./copies.mjs";
 import { Away, Refused, refusalOf } from "./errors.mjs";
 import { operationsOf } from "./followers.mjs";
 import { generationOf } from "./generations.mjs";
@@ -51,9 +51,9 @@ import { Remaking } from "./remaking.mjs";
  *  @property {() => number} now In milliseconds since some moment.
  *  @property {() => boolean} isFiled Whether copies may be made of what is edited: a file has it.
  *  @property {() => boolean} wasOpen Whether what was restored may be that of a program that goes on.
+ *  @property {() => boolean} isNew Whether its name is of this opening of the store.
  *  @property {(place: import("./operations.mjs").Cursor) => void} say Deletes what isn't there.
- *  @property {(counter: number) => string} sessionOf A word of the time in which an own operation was
- *    made, from the opening of its store to its end.
+ *  @property {import("./copies.mjs").SessionOf} sessionOf
  *  @property {(count: number) => void} fetched Is called with the operations that came, once more
  *    have come, and are to be taken. */
 
@@ -68,11 +68,13 @@ const WAIT_MS = 5000; // behind the last operation of this replica that another 
 
 export class Exchange {
   #core;
+  #restored; // own operations up to this counter were in the store when that was opened
   #stored; // own operations up to this counter were stored, and may have been sent then
   #sent; // up to this counter they were sent, perhaps
   #underWay = 0; // up to this counter replies to them are due
   #applied = 0; // up to this counter a server has logged them, as they were sent
   #confirmed = 0; // up to this counter a server has them, and they are the same
+  #ours; // up to this counter a server has them, and no other program had others by then
   #forked = Infinity; // from this counter on others have the ids of own operations, or may
   #hasSeenFront = false;
   /** @type {Set<number>} Own operations that a server has logged behind another's of this name. */
@@ -93,8 +95,7 @@ export class Exchange {
    *  @param {number} stored The counter of the last own operation that was restored. */
   constructor(core, stored) {
     this.#core = core;
-    this.#stored = stored;
-    this.#sent = stored;
+    this.#restored = this.#stored = this.#sent = this.#ours = stored;
   }
 
   /** The counter of the last own operation that a server is known to have; `undefined` if none was
@@ -248,10 +249,21 @@ export class Exchange {
   async #findCopied(ask, theirs) {
     const last = theirs.get(this.#core.name()) ?? 0;
     const { same, copied } = await this.#compared(ask, theirs);
-    const isOurs = this.#applied > this.#stored; // it sends under this name
-    const sure = Math.min(same, isOurs ? Infinity : copied);
-    if (sure > this.#sent) this.#sent = this.#stored = sure;
-    else if (same > this.#sent && !isOurs) this.#waitFor(last);
+    const isOurs = this.#isOurs(same);
+    const sure = isOurs ? same : Math.min(same, copied);
+    if (sure > this.#sent) {
+      this.#sent = this.#stored = sure;
+      this.#ours = Math.max(this.#ours, sure);
+    } else if (same > this.#sent && !isOurs) this.#waitFor(last);
+  }
+
+  /** Whether what a server has up to an own operation, and is the same here, is this replica's own. A
+   *  copy that was made before this opening of the store can't have sent it: one of these has said
+   *  something else by then. One that was made since says where it begins.
+   *  @param {number} same */
+  #isOurs(same) {
+    const isAlone = this.#core.isNew() || this.#isCopy || this.#ours > this.#restored;
+    return same > this.#restored && isAlone;
   }
 
   /** @param {number} last Of the server's operations of this name. */
@@ -263,26 +275,18 @@ export class Exchange {
     }
   }
 
-  /** Of the server's operations of this name that weren't sent from here: up to which they are the
-   *  same here, and up to which a copy says that it has them.
+  /** The server's operations of this name that weren't sent from here beside the own ones.
    *  @param {Ask} ask
    *  @param {Map<string, number>} theirs */
   async #compared(ask, theirs) {
-    const name = this.#core.name();
-    const mine = operationsOf(this.#core.read, new Map(this.#core.front()).set(name, this.#sent));
-    const own = [...mine].filter(([, [, replica]]) => replica === name).map(print);
-    let [same, copied, at, isSame] = [this.#sent, 0, 0, true];
+    const comparison = new Comparison(this.#core, this.#sent);
     const behind = new Map(theirs);
-    if (this.#sent > 0) behind.set(name, this.#sent);
-    else behind.delete(name);
+    if (this.#sent > 0) behind.set(this.#core.name(), this.#sent);
+    else behind.delete(this.#core.name());
     for await (const { operations } of pagesOf(ask, behind, false)) {
-      for (const op of operations.filter((it) => isId(it?.[1]) && it[1][1] === name)) {
-        copied = Math.max(copied, copiedBy(op, name));
-        isSame &&= print(op) === own[at++];
-        if (isSame) same = op[1][0];
-      }
+      for (const op of operations) comparison.take(op);
     }
-    return { same, copied };
+    return comparison;
   }
 
   /** Whether what was restored may be that of a program that goes on, and nobody was told. */
@@ -295,15 +299,14 @@ export class Exchange {
   say() {
     if (!this.isDoubtful) return;
     this.#hasSaid = this.#isCopy = true;
-    const session = this.#core.sessionOf(Infinity);
-    this.#core.say(copyPlace(this.#core.name(), this.#stored, session));
+    const { name, say, sessionOf } = this.#core;
+    say(copyPlace(name(), this.#stored, sessionOf(Infinity), sessionOf(this.#stored)));
   }
 
   /** @param {Map<string, number>} theirs */
   #sayWhatIsLacking(theirs) {
     if (this.#forked < Infinity) return;
     if ((theirs.get(this.#core.name()) ?? 0) < this.#stored) this.say();
-    else this.#hasSaid = true;
   }
 
   /** @param {Report} report
@@ -398,7 +401,7 @@ export class Exchange {
       const [, [counter, replica]] = page[at];
       const isOwn = replica === this.#core.name();
       const isNew = isOwn && reply === undefined && counter > before && !this.#core.isShared()
-        && this.#applied <= this.#stored;
+        && !this.#isOurs(counter);
       if (isNew && page.length === 1 && this.#core.isFiled()) {
         this.#sent = before; // it came from another: the next exchange looks who that is
         this.#waitFor(counter);
@@ -424,6 +427,7 @@ export class Exchange {
   #confirm(counter, isApplied) {
     this.#confirmed = Math.max(this.#confirmed, counter);
     if (isApplied || counter <= this.#stored) this.#applied = Math.max(this.#applied, counter);
+    if (isApplied) this.#ours = Math.max(this.#ours, counter);
   }
 
   /** What to go on with under a new name: `run` of it gives that at once, and `free` ends it. What
@@ -441,7 +445,8 @@ export class Exchange {
       const forked = await this.#forkedAt(ask);
       const scratch = open(freshName("scratch"));
       const stored = isRemade ? this.#copyable : 0;
-      const how = { name, forked, sure, stored, strays: this.#strays, isRemade, maySend };
+      const isOurs = (/** @type {number} */ same) => this.#isOurs(same);
+      const how = { name, forked, sure, isOurs, stored, strays: this.#strays, isRemade, maySend };
       /** @type {Remaking} */
       const remaking = new Remaking(this.#core, scratch, how);
       try {

@@ -75,6 +75,8 @@ export class Replica {
   isFiled = false;
   /** Whether what was restored may be that of a program that goes on: its store wasn't closed. */
   wasOpen = false;
+  /** Whether its name is of this opening of the store: so only copies that were made since have it. */
+  isNew = false;
   /** For tests: what waiting goes by.
    *  @type {import("./clock.mjs").Clock} */
   clock = CLOCK;
@@ -130,7 +132,8 @@ export class Replica {
       take: (operations) => this.deliverAll(operations), isShared: () => this.isShared,
       begin: (lines) => this.#mayBegin(lines.length) && this.#events.batch(() => this.#begin(lines)),
       now: () => this.clock.now(), isFiled: () => this.isFiled, wasOpen: () => this.wasOpen,
-      sessionOf: (counter) => this.#sessionOf(counter), say: (place) => this.#say(place), fetched: (count) => this.fetched(count),
+      isNew: () => this.isNew, sessionOf: (counter) => this.#sessionOf(counter),
+      say: (place) => this.#say(place), fetched: (count) => this.fetched(count),
     }, stored);
   }
 
@@ -687,7 +690,7 @@ export class Replica {
     this.#use(engine, lines.length);
     this.#moved = composed(this.#moved, ids);
     this.#history.adopt(done, ids, steps[steps.length - 1]?.start ?? []);
-    this.#exchange = this.#newExchange(0);
+    this.#beginName();
     this.#events.remade(before, (place) => this.#watchAgain(place, ids));
     return { remade: again.length, lost: lost.map(print) };
   }
@@ -705,12 +708,18 @@ export class Replica {
     const engine = new LastingEngine(this.#open, name, lines);
     this.#name = name;
     this.#use(engine, lines.length);
-    this.#exchange = this.#newExchange(0);
-    this.sessions = this.sessions.slice(-1).map(({ word }) => ({ after: 0, word }));
+    this.#beginName();
     const now = new Set(lines);
     const gone = before.filter((line) => !now.has(line));
     this.#events.remade(gone, (place) => this.#watchAgain(place, ids));
     return report;
+  }
+
+  /** What is known of the operations of a name that it has from now on. */
+  #beginName() {
+    this.#exchange = this.#newExchange(0);
+    this.isNew = true;
+    this.sessions = this.sessions.slice(-1).map(({ word }) => ({ after: 0, word }));
   }
 
   /** @param {Cursor} old

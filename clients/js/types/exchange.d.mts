@@ -119,14 +119,14 @@ export type Core = {
      */
     wasOpen: () => boolean;
     /**
+     * Whether its name is of this opening of the store.
+     */
+    isNew: () => boolean;
+    /**
      * Deletes what isn't there.
      */
     say: (place: import("./operations.mjs").Cursor) => void;
-    /**
-     * A word of the time in which an own operation was
-     * made, from the opening of its store to its end.
-     */
-    sessionOf: (counter: number) => string;
+    sessionOf: import("./copies.mjs").SessionOf;
     /**
      * Is called with the operations that came, once more
      * have come, and are to be taken.
