@@ -1,5 +1,6 @@
 /* What listeners of a replica hear: one event for all that was logged together, one at a time. */
 
+import { parse } from "./json.mjs";
 import { reserve } from "./lasting.mjs";
 import { endOf, isPrefix, textsOf } from "./places.mjs";
 
@@ -30,7 +31,7 @@ import { endOf, isPrefix, textsOf } from "./places.mjs";
  *  @property {() => Splice[]} take What has changed since it was last called.
  *  @property {(op: Operation) => void} [note] Is called with each operation at, under or above the
  *    watch's place, once the engine has it, before `take`.
- *  @property {(all: Operation[]) => void} [renew] Anything may have changed before `take`: these are
+ *  @property {(lines: string[]) => void} [renew] Anything may have changed before `take`: these are
  *    all operations.
  *  @property {() => void} end
  *  @property {number} [length] Of the list, if the source knows it. */
@@ -42,7 +43,20 @@ import { endOf, isPrefix, textsOf } from "./places.mjs";
  *  @property {number} length Of the list, as the splices made it.
  *  @property {Changed} changed */
 
-/** @typedef {{line: string, op: Operation}} Logged */
+/** An operation that was logged. What is known by its line alone is read once it is asked for. */
+class Logged {
+  #op;
+
+  /** @param {string} line
+   *  @param {Operation} [op] */
+  constructor(line, op) {
+    this.line = line;
+    this.#op = op;
+  }
+
+  /** @returns {Operation} */
+  get op() { return (this.#op ??= /** @type {Operation} */ (parse(this.line))); }
+}
 
 export class Events {
   /** @type {Set<Heard>} */
@@ -109,19 +123,25 @@ export class Events {
     }
   }
 
-  /** Is called in place of `note` where all that the engine has is new.
-   *  @param {Operation[]} all */
-  renew(all) {
-    for (const { source } of this.#watches) source.renew?.(all);
+  /** Is called in place of `note` and `log` with all that the engine has, where all of it is new.
+   *  @param {string[]} lines
+   *  @param {Why} why */
+  begin(lines, why) {
+    for (const { source } of this.#watches) source.renew?.(lines);
+    this.#log(lines.map((line) => new Logged(line)), why);
   }
 
   /** @param {string} line
    *  @param {Operation} op
    *  @param {Why} why */
-  log(line, op, why) {
+  log(line, op, why) { this.#log([new Logged(line, op)], why); }
+
+  /** @param {Logged[]} logged
+   *  @param {Why} why */
+  #log(logged, why) {
     if (why !== this.#why) this.#close(false);
     this.#why = why;
-    this.#logged.push({ line, op });
+    for (const it of logged) this.#logged.push(it);
   }
 
   /** Makes an event of what was logged. */

@@ -1,13 +1,13 @@
 /* The exchange of a replica with servers. */
 
-import { copiedBy, copyPlace } from "./copies.mjs";
+import { Comparison, copyPlace } from "./copies.mjs";
 import { Away, Refused, refusalOf } from "./errors.mjs";
 import { operationsOf } from "./followers.mjs";
 import { generationOf } from "./generations.mjs";
 import { isArray, parse, print } from "./json.mjs";
 import { MOST } from "./limits.mjs";
 import { freshName } from "./names.mjs";
-import { covers, frontPairs, isAscending, isFront, isId, keepTexts } from "./operations.mjs";
+import { covers, frontPairs, isAscending, isFront, isId, Page } from "./operations.mjs";
 import { NAME_USED_TWICE, REFUSALS } from "./protocol.mjs";
 import { Remaking } from "./remaking.mjs";
 
@@ -45,13 +45,15 @@ import { Remaking } from "./remaking.mjs";
  *  @property {Read} read
  *  @property {() => Map<string, number>} front
  *  @property {(operations: any[]) => Taken} take Delivers operations as one batch.
+ *  @property {(lines: string[]) => boolean} begin Begins with operations, of which a server wrote
+ *    these texts. Returns whether it has: else nothing is changed, and they are to be delivered.
  *  @property {() => boolean} isShared
  *  @property {() => number} now In milliseconds since some moment.
  *  @property {() => boolean} isFiled Whether copies may be made of what is edited: a file has it.
  *  @property {() => boolean} wasOpen Whether what was restored may be that of a program that goes on.
+ *  @property {() => boolean} isNew Whether its name is of this opening of the store.
  *  @property {(place: import("./operations.mjs").Cursor) => void} say Deletes what isn't there.
- *  @property {(counter: number) => string} sessionOf A word of the time in which an own operation was
- *    made, from the opening of its store to its end.
+ *  @property {import("./copies.mjs").SessionOf} sessionOf
  *  @property {(count: number) => void} fetched Is called with the operations that came, once more
  *    have come, and are to be taken. */
 
@@ -66,11 +68,13 @@ const WAIT_MS = 5000; // behind the last operation of this replica that another 
 
 export class Exchange {
   #core;
+  #restored; // own operations up to this counter were in the store when that was opened
   #stored; // own operations up to this counter were stored, and may have been sent then
   #sent; // up to this counter they were sent, perhaps
   #underWay = 0; // up to this counter replies to them are due
   #applied = 0; // up to this counter a server has logged them, as they were sent
   #confirmed = 0; // up to this counter a server has them, and they are the same
+  #ours; // up to this counter a server has them, and no other program had others by then
   #forked = Infinity; // from this counter on others have the ids of own operations, or may
   #hasSeenFront = false;
   /** @type {Set<number>} Own operations that a server has logged behind another's of this name. */
@@ -91,8 +95,7 @@ export class Exchange {
    *  @param {number} stored The counter of the last own operation that was restored. */
   constructor(core, stored) {
     this.#core = core;
-    this.#stored = stored;
-    this.#sent = stored;
+    this.#restored = this.#stored = this.#sent = this.#ours = stored;
   }
 
   /** The counter of the last own operation that a server is known to have; `undefined` if none was
@@ -246,10 +249,21 @@ export class Exchange {
   async #findCopied(ask, theirs) {
     const last = theirs.get(this.#core.name()) ?? 0;
     const { same, copied } = await this.#compared(ask, theirs);
-    const isOurs = this.#applied > this.#stored; // it sends under this name
-    const sure = Math.min(same, isOurs ? Infinity : copied);
-    if (sure > this.#sent) this.#sent = this.#stored = sure;
-    else if (same > this.#sent && !isOurs) this.#waitFor(last);
+    const isOurs = this.#isOurs(same);
+    const sure = isOurs ? same : Math.min(same, copied);
+    if (sure > this.#sent) {
+      this.#sent = this.#stored = sure;
+      this.#ours = Math.max(this.#ours, sure);
+    } else if (same > this.#sent && !isOurs) this.#waitFor(last);
+  }
+
+  /** Whether what a server has up to an own operation, and is the same here, is this replica's own. A
+   *  copy that was made before this opening of the store can't have sent it: one of these has said
+   *  something else by then. One that was made since says where it begins.
+   *  @param {number} same */
+  #isOurs(same) {
+    const isAlone = this.#core.isNew() || this.#isCopy || this.#ours > this.#restored;
+    return same > this.#restored && isAlone;
   }
 
   /** @param {number} last Of the server's operations of this name. */
@@ -261,26 +275,18 @@ export class Exchange {
     }
   }
 
-  /** Of the server's operations of this name that weren't sent from here: up to which they are the
-   *  same here, and up to which a copy says that it has them.
+  /** The server's operations of this name that weren't sent from here beside the own ones.
    *  @param {Ask} ask
    *  @param {Map<string, number>} theirs */
   async #compared(ask, theirs) {
-    const name = this.#core.name();
-    const mine = operationsOf(this.#core.read, new Map(this.#core.front()).set(name, this.#sent));
-    const own = [...mine].filter(([, [, replica]]) => replica === name).map(print);
-    let [same, copied, at, isSame] = [this.#sent, 0, 0, true];
+    const comparison = new Comparison(this.#core, this.#sent);
     const behind = new Map(theirs);
-    if (this.#sent > 0) behind.set(name, this.#sent);
-    else behind.delete(name);
-    for await (const page of pagesOf(ask, behind, false)) {
-      for (const op of page.filter((it) => isId(it?.[1]) && it[1][1] === name)) {
-        copied = Math.max(copied, copiedBy(op, name));
-        isSame &&= print(op) === own[at++];
-        if (isSame) same = op[1][0];
-      }
+    if (this.#sent > 0) behind.set(this.#core.name(), this.#sent);
+    else behind.delete(this.#core.name());
+    for await (const { operations } of pagesOf(ask, behind, false)) {
+      for (const op of operations) comparison.take(op);
     }
-    return { same, copied };
+    return comparison;
   }
 
   /** Whether what was restored may be that of a program that goes on, and nobody was told. */
@@ -293,15 +299,14 @@ export class Exchange {
   say() {
     if (!this.isDoubtful) return;
     this.#hasSaid = this.#isCopy = true;
-    const session = this.#core.sessionOf(Infinity);
-    this.#core.say(copyPlace(this.#core.name(), this.#stored, session));
+    const { name, say, sessionOf } = this.#core;
+    say(copyPlace(name(), this.#stored, sessionOf(Infinity), sessionOf(this.#stored)));
   }
 
   /** @param {Map<string, number>} theirs */
   #sayWhatIsLacking(theirs) {
     if (this.#forked < Infinity) return;
     if ((theirs.get(this.#core.name()) ?? 0) < this.#stored) this.say();
-    else this.#hasSaid = true;
   }
 
   /** @param {Report} report
@@ -323,12 +328,23 @@ export class Exchange {
     const front = this.#core.front();
     const pages = pagesOf(ask, front, isFollowed);
     const came = counted(pages, this.#core.fetched);
-    for await (const page of joined(came, front.size > 0 ? AT_ONCE : Infinity)) {
-      for (const op of page) if (isId(op?.[1])) this.#noteTheirs(answer, theirs, op[1]);
-      const { taken, refused } = this.#core.take(page);
+    for await (const some of joined(came, front.size > 0 ? AT_ONCE : Infinity)) {
+      for (const { last } of some) {
+        for (const [name, counter] of last) this.#noteTheirs(answer, theirs, [counter, name]);
+      }
+      const { taken, refused } = this.#takePages(some);
       report.taken += taken;
       for (const { line, refusal } of refused) this.#refuse(report, line, refusal);
     }
+  }
+
+  /** @param {Page[]} pages
+   *  @returns {Taken} */
+  #takePages(pages) {
+    const count = pages.reduce((sum, { length }) => sum + length, 0);
+    const texts = pages.flatMap((page) => page.texts ?? []);
+    if (texts.length === count && this.#core.begin(texts)) return { taken: count, refused: [] };
+    return this.#core.take(pages.flatMap(({ operations }) => operations));
   }
 
   /** @param {Ask} ask
@@ -385,7 +401,7 @@ export class Exchange {
       const [, [counter, replica]] = page[at];
       const isOwn = replica === this.#core.name();
       const isNew = isOwn && reply === undefined && counter > before && !this.#core.isShared()
-        && this.#applied <= this.#stored;
+        && !this.#isOurs(counter);
       if (isNew && page.length === 1 && this.#core.isFiled()) {
         this.#sent = before; // it came from another: the next exchange looks who that is
         this.#waitFor(counter);
@@ -411,6 +427,7 @@ export class Exchange {
   #confirm(counter, isApplied) {
     this.#confirmed = Math.max(this.#confirmed, counter);
     if (isApplied || counter <= this.#stored) this.#applied = Math.max(this.#applied, counter);
+    if (isApplied) this.#ours = Math.max(this.#ours, counter);
   }
 
   /** What to go on with under a new name: `run` of it gives that at once, and `free` ends it. What
@@ -428,11 +445,14 @@ export class Exchange {
       const forked = await this.#forkedAt(ask);
       const scratch = open(freshName("scratch"));
       const stored = isRemade ? this.#copyable : 0;
-      const how = { name, forked, sure, stored, strays: this.#strays, isRemade, maySend };
+      const isOurs = (/** @type {number} */ same) => this.#isOurs(same);
+      const how = { name, forked, sure, isOurs, stored, strays: this.#strays, isRemade, maySend };
       /** @type {Remaking} */
       const remaking = new Remaking(this.#core, scratch, how);
       try {
-        for await (const page of pagesOf(ask, new Map(), false)) for (const op of page) remaking.begin(op);
+        for await (const { operations } of pagesOf(ask, new Map(), false)) {
+          for (const op of operations) remaking.begin(op);
+        }
         this.#checkGeneration(scratch);
         if (await remaking.send(ask)) return remaking;
         maySend = remaking.maySend && round < MOST_ROUNDS;
@@ -475,17 +495,18 @@ function raise(front, [counter, name]) {
 
 /** @typedef {(word: string, ...items: any[]) => Promise<any>} Ask */
 
-/** What sends requests: resolves what is behind the word of the reply, or throws Refused.
+/** What sends requests: resolves what is behind the word of the reply, a `Page` where that is
+ *  operations, or throws Refused.
  *  @param {Answer} answer
  *  @param {string} doc
  *  @returns {Ask} */
 function asking(answer, doc) {
   return async (word, ...items) => {
     const line = await answer(print([word, doc, ...items]));
+    if (/^\["(?:page|ops)",\[/.test(line)) return new Page(line);
     const reply = parse(line);
     if (!isArray(reply) || reply.length === 0) throw malformed(word);
     const [kind, first, second, third] = reply;
-    if ((kind === "page" || kind === "ops") && isArray(first)) keepTexts(first, line);
     if (kind === "no") throw new Refused(first, second, third);
     return first;
   };
@@ -532,7 +553,8 @@ function* pagesToGive(operations, name, isLogged) {
  *  is used. Ends if the server repeats itself, and throws if it has more than a document can have.
  *  @param {Ask} ask
  *  @param {Map<string, number>} front
- *  @param {boolean} isHub Whether it is a hub that has pages of its own. */
+ *  @param {boolean} isHub Whether it is a hub that has pages of its own.
+ *  @returns {AsyncGenerator<Page>} */
 async function* pagesOf(ask, front, isHub) {
   const seen = new Map(front);
   const next = () => {
@@ -545,7 +567,7 @@ async function* pagesOf(ask, front, isHub) {
   for (let count = 0, isMore = true; isMore; ) {
     const page = await asked;
     const most = MOST.page * (isHub ? MOST_PAGES : 1);
-    if (!isArray(page) || page.length > most) throw malformed("ops");
+    if (!(page instanceof Page) || page.length > most) throw malformed("ops");
     const isFull = page.length > 0 && page.length % MOST.page === 0;
     isMore = isFull && isNews(seen, page);
     count += page.length;
@@ -556,7 +578,7 @@ async function* pagesOf(ask, front, isHub) {
 }
 
 /** Pages as they come, of which `fetched` is called with how many operations they have together.
- *  @param {AsyncIterable<any[]>} pages
+ *  @param {AsyncIterable<Page>} pages
  *  @param {(count: number) => void} fetched */
 async function* counted(pages, fetched) {
   let count = 0;
@@ -569,36 +591,37 @@ async function* counted(pages, fetched) {
 
 /** Pages together, of so many operations at least. Where a page can't be had, those before come
  *  first, and then it is thrown.
- *  @param {AsyncIterable<any[]>} pages
+ *  @param {AsyncIterable<Page>} pages
  *  @param {number} least */
 async function* joined(pages, least) {
-  /** @type {any[]} */
+  /** @type {Page[]} */
   let found = [];
+  let count = 0;
   /** @type {unknown[]} */
   const errors = [];
   try {
     for await (const page of pages) {
-      for (const op of page) found.push(op);
-      if (found.length < least) continue;
+      found.push(page);
+      count += page.length;
+      if (count < least) continue;
       yield found;
-      found = [];
+      [found, count] = [[], 0];
     }
   } catch (error) {
     errors.push(error);
   }
-  if (found.length > 0) yield found;
+  if (count > 0) yield found;
   for (const error of errors) throw error;
 }
 
 /** Adds the ids of a page to what was seen. Returns whether one of them is new.
  *  @param {Map<string, number>} seen
- *  @param {any[]} page */
-function isNews(seen, page) {
+ *  @param {Page} page */
+function isNews(seen, { last }) {
   let isNew = false;
-  for (const op of page) {
-    const id = isArray(op) ? op[1] : undefined;
-    if (!isId(id) || covers(seen, id)) continue;
-    seen.set(id[1], id[0]);
+  for (const [name, counter] of last) {
+    if (covers(seen, [counter, name])) continue;
+    seen.set(name, counter);
     isNew = true;
   }
   return isNew;

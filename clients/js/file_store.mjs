@@ -68,7 +68,7 @@ class FileStore {
     const word = freshName("at");
     this.#session = JSON.stringify(["session", word]);
     sessions.push({ before: lines.length, word });
-    return { name, lines, unread, wasOpen: mark?.isOpen ?? false, sessions };
+    return { name, lines, unread, wasOpen: mark?.isOpen ?? false, isNew: !head, sessions };
   }
 
   /** Opens the file to write behind so many bytes. What was cut off in writing goes.

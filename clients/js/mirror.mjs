@@ -4,7 +4,7 @@
    times for a change, and for the whole list where most of it may have changed. */
 
 import { Refused, refusalOf } from "./errors.mjs";
-import { isArray, isMap } from "./json.mjs";
+import { isArray, isMap, parse, print } from "./json.mjs";
 import { isId } from "./operations.mjs";
 import { endOf, placeOf, writtenOf } from "./places.mjs";
 
@@ -23,6 +23,15 @@ const [FEW, PART] = [8, 1 / 32];
 /** @type {any} */
 const EMPTY_LIST = Object.freeze([]);
 const EMPTY_MAP = Object.freeze({});
+
+/** The text of an id.
+ *  @param {Id} id */
+const keyOf = ([counter, replica]) => `${counter},${replica}`;
+
+/** Whether the line of an operation assigns or inserts a scalar, as it is seen at the end of it.
+ *  @param {string} line */
+const isOfScalar = (line) =>
+  !line.endsWith("[]]]") && !line.endsWith("{}]]") && !line.includes('["add",');
 
 /** @implements {Source} */
 export class Mirror {
@@ -55,13 +64,13 @@ export class Mirror {
    *  @param {Id} id */
   indexOf(id) {
     this.take();
-    return this.has(id) ? this.#keys.indexOf(String(id)) + 1 : 0;
+    return this.has(id) ? this.#keys.indexOf(keyOf(id)) + 1 : 0;
   }
 
   end() {}
 
   /** @param {Id} id */
-  has(id) { return this.#values.has(String(id)); }
+  has(id) { return this.#values.has(keyOf(id)); }
 
   /** Notes an operation that was logged: one at, under or above the place.
    *  @param {Operation} op */
@@ -72,18 +81,27 @@ export class Mirror {
     if (end.length <= length && (word === "assign" || word === "delete")) this.renew();
     if (this.#isAll || !isId(id)) return;
     const isDeeper = end.length > length + 1;
-    if (word === "insert" && !isDeeper && typeof value === "string") this.#fresh.set(String(id), value);
-    else this.#fresh.delete(String(id));
+    if (word === "insert" && !isDeeper && typeof value === "string") this.#fresh.set(keyOf(id), value);
+    else this.#fresh.delete(keyOf(id));
     this.#noteElement(id, isDeeper);
   }
 
   /** Notes that anything may have changed.
-   *  @param {Operation[]} [all] All that the engine has, where that is known. */
-  renew(all) {
+   *  @param {string[]} [lines] All operations that the engine has, where these are known. */
+  renew(lines) {
     this.#isAll = true;
-    this.#isFlat = all !== undefined && all.every((op) => this.#isOfScalar(op));
+    this.#isFlat = lines !== undefined && this.#areOfScalars(lines);
     this.#changed.clear();
     this.#fresh.clear();
+  }
+
+  /** Whether operations leave elements of the list with scalars alone. Most lines aren't read for it:
+   *  a quotation mark within a string has a backslash before it, so no string has what is looked for.
+   *  @param {string[]} lines */
+  #areOfScalars(lines) {
+    const [path] = writtenOf([...this.#place, 0]);
+    const here = `${print(path)},`;
+    return lines.every((line) => (line.includes(here) && isOfScalar(line)) || this.#isOfScalar(parse(line)));
   }
 
   /** Whether an operation leaves elements of the list with scalars alone.
@@ -99,7 +117,7 @@ export class Mirror {
    *  @param {boolean} isDeeper */
   #noteElement(id, isDeeper) {
     if (isDeeper && this.has(id)) return;
-    this.#changed.set(String(id), id);
+    this.#changed.set(keyOf(id), id);
     if (this.#changed.size > FEW + this.#keys.length * PART) this.renew();
   }
 
@@ -129,19 +147,22 @@ export class Mirror {
     const cursor = [writtenOf(this.#place)];
     /** @type {[Id, any[]][]} */
     const items = this.#read("items", cursor);
-    if (items.length === 0) return new Map();
-    if (this.#isFlat) return new Map(items.map(([id, values]) => [String(id), values[values.length - 1]]));
-    const [, shown] = this.#read("show", cursor).find((/** @type {any[]} */ [kind]) => kind === "list");
-    return new Map(items.map(([id, values], at) => {
+    const all = new Map();
+    if (items.length === 0) return all;
+    const shown = this.#isFlat ? [] :
+      this.#read("show", cursor).find((/** @type {any[]} */ [kind]) => kind === "list")[1];
+    for (const [at, [id, values]] of items.entries()) {
       // A map or list may be the last value only where it is shown.
-      const isPlain = values.length > 0 && shown[at].every((/** @type {any[]} */ [kind]) => kind === "val");
-      return [String(id), isPlain ? values[values.length - 1] : this.#valueOf(id)];
-    }));
+      const isPlain = this.#isFlat
+        || (values.length > 0 && shown[at].every((/** @type {any[]} */ [kind]) => kind === "val"));
+      all.set(keyOf(id), isPlain ? values[values.length - 1] : this.#valueOf(id));
+    }
+    return all;
   }
 
   /** @param {Id} id */
   #valueOf(id) {
-    const fresh = this.#fresh.get(String(id));
+    const fresh = this.#fresh.get(keyOf(id));
     if (fresh !== undefined) return fresh;
     const value = this.#read("conflicts", [writtenOf([...this.#place, id])]).pop()?.[1];
     return isArray(value) ? EMPTY_LIST : isMap(value) ? EMPTY_MAP : value;
@@ -194,7 +215,7 @@ export class Mirror {
     let [at, key] = [middle, ""];
     for (; at < to; at++) {
       const id = /** @type {Id} */ (this.#at(at));
-      key = String(id);
+      key = keyOf(id);
       if (!this.#changed.has(key)) break;
       run.push({ index: at, key, id });
     }

@@ -1,7 +1,7 @@
 /* Ids, fronts, and the shape of an operation. */
 
 import { Refused, refusalOf } from "./errors.mjs";
-import { isArray, isPlain } from "./json.mjs";
+import { isArray, isPlain, parse } from "./json.mjs";
 import { MOST } from "./limits.mjs";
 import { isName } from "./names.mjs";
 import { checkedInteger, checkedScalar, isText } from "./values.mjs";
@@ -106,28 +106,65 @@ export function checkShape(op) {
   if (!isAscending(front) || id[0] !== nextCounter(front)) throw new Refused(13);
 }
 
-// ---- The texts of operations that came in a reply
+// ---- Operations that came in a reply
 
-/** @type {WeakMap<any[], string>} */
-const TEXTS = new WeakMap();
 const START = '["op",[';
+const ID = /^\["op",\[(\d{1,6}),"([a-z0-9-]{1,32})"\],/;
 
-/** Keeps the texts of the operations that were read of a reply `[WORD,[OPERATION,..]]`: so they needn't
- *  be written again. A quotation mark within a string has a backslash before it: so where `["op",[`
- *  is, one begins, unless it is no operation. Then the number of the parts is another, or one is no
- *  JSON: who uses these texts is to look at that.
- *  @param {any[]} operations
- *  @param {string} reply */
-export function keepTexts(operations, reply) {
-  const begins = [];
-  for (let at = reply.indexOf(START); at >= 0; at = reply.indexOf(START, at + 1)) begins.push(at);
-  if (begins.length !== operations.length) return;
-  for (const [number, op] of operations.entries()) {
-    const end = number + 1 < begins.length ? begins[number + 1] - 1 : reply.length - 2;
-    if (Array.isArray(op)) TEXTS.set(op, reply.slice(begins[number], end));
+/** The operations of a reply `[WORD,[OPERATION,..]]`. Where it is written as a server writes it, they
+ *  are known by their texts, and aren't read before they are asked for: reading them takes several
+ *  times as long. */
+export class Page {
+  /** @type {Map<string, number>} Of each replica: the last of its operations that is here. */
+  last = new Map();
+  /** @type {string[] | undefined} The operations' texts, where the reply is written so. */
+  texts;
+  #reply;
+  /** @type {any[] | undefined} */
+  #operations;
+
+  /** Throws SyntaxError for what is no JSON, and TypeError where there is no array of operations; or
+   *  `operations` does so later.
+   *  @param {string} reply */
+  constructor(reply) {
+    this.#reply = reply;
+    const texts = this.#textsIn(reply);
+    // By a page that isn't full a server says that it has no more: so that is read.
+    const isFull = texts && texts.length > 0 && texts.length % MOST.page === 0;
+    if (isFull || texts?.length === this.operations.length) this.texts = texts;
+    else for (const op of this.operations) if (isArray(op) && isId(op[1])) this.#note(op[1]);
+  }
+
+  get length() { return this.texts?.length ?? this.operations.length; }
+
+  /** @returns {any[]} */
+  get operations() {
+    this.#operations ??= parse(this.#reply)[1];
+    if (!isArray(this.#operations)) throw new TypeError("there is no array of operations");
+    return this.#operations;
+  }
+
+  /** Cuts a reply into the texts of its operations, and notes their ids. A quotation mark within a
+   *  string has a backslash before it: so where `,["op",[` is, one begins.
+   *  @param {string} reply */
+  #textsIn(reply) {
+    const from = /^\["[a-z]+",\[/.exec(reply)?.[0].length;
+    if (from === undefined || !reply.endsWith("]]")) return undefined;
+    const texts = [];
+    for (let [at, end] = [from, reply.length - 2]; at < end; ) {
+      const next = reply.indexOf(`,${START}`, at);
+      const text = reply.slice(at, next < 0 ? end : next);
+      const [, counter, name] = ID.exec(text) ?? [];
+      if (!isCounter(Number(counter))) return undefined;
+      this.#note([Number(counter), name]);
+      texts.push(text);
+      at += text.length + 1;
+    }
+    return texts;
+  }
+
+  /** @param {Id} id */
+  #note([counter, name]) {
+    if (counter > (this.last.get(name) ?? 0)) this.last.set(name, counter);
   }
 }
-
-/** The text of an operation as it came in a reply, if that was kept.
- *  @param {any[]} operation */
-export const textOf = (operation) => TEXTS.get(operation);

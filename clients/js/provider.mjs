@@ -450,6 +450,7 @@ async function restored({ document, engine, word = "replica" }, store, stored) {
     replica.isShared = store.follow !== undefined;
     replica.isFiled = stored.wasOpen !== undefined;
     replica.wasOpen = stored.wasOpen ?? false;
+    replica.isNew = own !== name || (stored.isNew ?? false);
     replica.sessions = (stored.sessions ?? []).map(({ before, word: of }) =>
       ({ after: lastOwn(stored.lines.slice(0, before), own), word: of }));
     return replica;

@@ -8,6 +8,7 @@
    store was opened is nobody else's, unless it is a file, which may be copied meanwhile: it goes under
    the new name of this replica. */
 
+import { Comparison } from "./copies.mjs";
 import { Refused, refusalOf } from "./errors.mjs";
 import { operationsOf, reading } from "./followers.mjs";
 import { isArray, print } from "./json.mjs";
@@ -33,6 +34,8 @@ import { NAME_USED_TWICE } from "./protocol.mjs";
  *  @property {string} name The new one.
  *  @property {number} forked From this counter on others have the ids of own operations.
  *  @property {number} sure Own insertions up to this counter are this replica's own.
+ *  @property {(same: number) => boolean} isOurs Whether what the server has up to this counter, and is
+ *    the same here, is this replica's own.
  *  @property {number} stored Copies of the store may have own operations up to this counter.
  *  @property {Set<number>} strays Own operations that the server has logged behind another's.
  *  @property {boolean} isRemade Whether own operations that the server lacks are made again.
@@ -61,6 +64,7 @@ export class Remaking {
   /** @type {Operation[]} What the server is to log next. */
   #due = [];
   #shared = ""; // the name under which copies make the same
+  #comparison;
   #isForked = false;
   #core;
   #scratch;
@@ -74,6 +78,7 @@ export class Remaking {
     this.#scratch = scratch;
     this.#how = how;
     this.maySend = how.maySend;
+    this.#comparison = new Comparison(core, 0);
   }
 
   free() { this.#scratch.free(); }
@@ -82,6 +87,7 @@ export class Remaking {
    *  @param {any} op */
   begin(op) {
     refusalOf(() => this.#scratch.ask(["deliver", op]).reply);
+    this.#comparison.take(op);
   }
 
   /** Makes again what copies of the store may have, too, and has the server log it. Returns whether
@@ -186,11 +192,14 @@ export class Remaking {
   }
 
   /** Whether it inserts an element that another of this name inserted alike: at the server something
-   *  else is put into it at once, as another title into a new card.
+   *  else is put into it at once, as another title into a new card. Of one that was begun before a copy
+   *  of the store was made the copy says so: it stays one.
    *  @param {Operation} op */
   #isOfAnother([, id, , , [word]]) {
-    if (word !== "insert") return false;
     const [counter, own] = id;
+    const { same, copied } = this.#comparison;
+    const ours = this.#how.isOurs(same) ? same : Math.min(same, copied);
+    if (word !== "insert" || counter <= ours) return false;
     const front = new Map(this.#core.front()).set(own, counter);
     const [next] = operationsOf(this.#core.read, front);
     if (!next || !next[3][0].some(([, key]) => String(key) === String(id))) return false;

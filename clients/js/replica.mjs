@@ -28,7 +28,7 @@ import { LastingEngine } from "./lasting.mjs";
 import { MOST } from "./limits.mjs";
 import { Mirror } from "./mirror.mjs";
 import { isName } from "./names.mjs";
-import { covers, frontPairs, isId, textOf } from "./operations.mjs";
+import { covers, frontPairs, isId } from "./operations.mjs";
 import { endOf, requestOf, writtenOf } from "./places.mjs";
 import { REFUSALS } from "./protocol.mjs";
 import { remakeIn } from "./renewal.mjs";
@@ -75,6 +75,8 @@ export class Replica {
   isFiled = false;
   /** Whether what was restored may be that of a program that goes on: its store wasn't closed. */
   wasOpen = false;
+  /** Whether its name is of this opening of the store: so only copies that were made since have it. */
+  isNew = false;
   /** For tests: what waiting goes by.
    *  @type {import("./clock.mjs").Clock} */
   clock = CLOCK;
@@ -128,8 +130,10 @@ export class Replica {
     return new Exchange({
       name: () => this.#name, doc: this.#doc, read: this.#read, front: () => this.#front,
       take: (operations) => this.deliverAll(operations), isShared: () => this.isShared,
+      begin: (lines) => this.#mayBegin(lines.length) && this.#events.batch(() => this.#begin(lines)),
       now: () => this.clock.now(), isFiled: () => this.isFiled, wasOpen: () => this.wasOpen,
-      sessionOf: (counter) => this.#sessionOf(counter), say: (place) => this.#say(place), fetched: (count) => this.fetched(count),
+      isNew: () => this.isNew, sessionOf: (counter) => this.#sessionOf(counter),
+      say: (place) => this.#say(place), fetched: (count) => this.fetched(count),
     }, stored);
   }
 
@@ -589,23 +593,28 @@ export class Replica {
     });
   }
 
+  /** Whether it may take so many operations by an engine that begins with them.
+   *  @param {number} count */
+  #mayBegin(count) { return this.#count === 0 && !this.#mayHold && count >= MANY; }
+
+  /** Takes many operations into an empty replica at once, if it can: see `#begin`.
+   *  @param {(string | Operation)[]} operations */
+  #beginWith(operations) {
+    if (!this.#mayBegin(operations.length)) return false;
+    const lines = refusalOf(() =>
+      operations.map((it) => checkedLine(typeof it === "string" ? parsedLine(it) : it)));
+    return !(lines instanceof Refused) && this.#begin(lines);
+  }
+
   /** Takes many operations into an empty replica by an engine that begins with them: that is several
    *  times quicker. Returns whether it has taken them. Where one of them can't be logged, they are to
    *  be delivered one by one.
-   *  @param {(string | Operation)[]} operations */
-  #beginWith(operations) {
-    const isEmpty = this.#count === 0 && !this.#mayHold;
-    if (!isEmpty || operations.length < MANY) return false;
-    const ops = operations.map((it) => (typeof it === "string" ? parsedLine(it) : it));
-    const lines = refusalOf(() => ops.map(checkedLine));
-    const engine = lines instanceof Refused ? lines : refusalOf(() =>
-      new LastingEngine(this.#open, this.#name, lines));
-    if (lines instanceof Refused || engine instanceof Refused) return false;
+   *  @param {string[]} lines */
+  #begin(lines) {
+    const engine = refusalOf(() => new LastingEngine(this.#open, this.#name, lines));
+    if (engine instanceof Refused) return false;
     this.#use(engine, lines.length);
-    this.#events.renew(/** @type {Operation[]} */ (ops));
-    for (const [at, op] of ops.entries()) {
-      this.#events.log(lines[at], /** @type {Operation} */ (op), "taken");
-    }
+    this.#events.begin(lines, "taken");
     return true;
   }
 
@@ -681,7 +690,7 @@ export class Replica {
     this.#use(engine, lines.length);
     this.#moved = composed(this.#moved, ids);
     this.#history.adopt(done, ids, steps[steps.length - 1]?.start ?? []);
-    this.#exchange = this.#newExchange(0);
+    this.#beginName();
     this.#events.remade(before, (place) => this.#watchAgain(place, ids));
     return { remade: again.length, lost: lost.map(print) };
   }
@@ -699,12 +708,18 @@ export class Replica {
     const engine = new LastingEngine(this.#open, name, lines);
     this.#name = name;
     this.#use(engine, lines.length);
-    this.#exchange = this.#newExchange(0);
-    this.sessions = this.sessions.slice(-1).map(({ word }) => ({ after: 0, word }));
+    this.#beginName();
     const now = new Set(lines);
     const gone = before.filter((line) => !now.has(line));
     this.#events.remade(gone, (place) => this.#watchAgain(place, ids));
     return report;
+  }
+
+  /** What is known of the operations of a name that it has from now on. */
+  #beginName() {
+    this.#exchange = this.#newExchange(0);
+    this.isNew = true;
+    this.sessions = this.sessions.slice(-1).map(({ word }) => ({ after: 0, word }));
   }
 
   /** @param {Cursor} old
@@ -777,7 +792,7 @@ function readLine(line) {
 function checkedLine(op) {
   if (!isArray(op)) throw new Refused(REFUSALS["bad-operation"]);
   try {
-    return textOf(op) ?? print(op);
+    return print(op);
   } catch {
     throw new Refused(REFUSALS["bad-operation"]);
   }

@@ -9,6 +9,7 @@
  * @property {string[]} unread what is there and is no line of an operation, as text
  * @property {boolean} [wasOpen] whether it wasn't closed: its program was killed, or goes on with what
  *   this is a copy of. Only of a store of which copies can be made
+ * @property {boolean} [isNew] whether the name was made now
  * @property {{ before: number, word: string }[]} [sessions] how often it was opened and edited: how many
  *   lines were there before, and a random word. The last one is of this opening
  */

@@ -41,6 +41,16 @@ const allSynced = async (...providers) => {
 };
 const textOf = ({ replica }) => replica.text([0, "text"]);
 
+/** Whether the store of a tab's pad has something of a generation. */
+const hasStored = (tab, generation) => tab.evaluate(`new Promise((done, failed) => {
+  const request = indexedDB.open("jcrdt d pad");
+  request.onerror = () => failed(request.error);
+  request.onsuccess = () => {
+    const rows = request.result.transaction("operations").objectStore("operations").getAll();
+    rows.onsuccess = () => { request.result.close(); done(JSON.stringify(rows.result).includes("gen${generation}-1")); };
+  };
+})`);
+
 suite("generations", { concurrency: true }, () => {
   test("what it shows goes on: order, counters, conflicts, empty values, big integers", async () => {
     const hub = await startDataHub();
@@ -347,7 +357,7 @@ suite("generations", { concurrency: true }, () => {
       it.replica.splice([0, "text"], 0, 0, String(at % 10));
       const { length } = it.replica.items([0, "text"]);
       if (length > 20) it.replica.splice([0, "text"], length - 2, 2, "");
-      if (at % 10 === 0) await pause(20);
+      if (at % 10 === 0) await until("it is sent", () => it.unsent.length === 0);
     }
     await allSynced(ada, bob);
     await until("it is in its second generation, at least", () => Number.parseInt(record(hub.folder).generation, 10) >= 2);
@@ -366,11 +376,12 @@ suite("generations", { concurrency: true }, () => {
         await pause(Math.random() * 3 * at);
       }
     });
+    const someMore = (from = answered) => until("some more are answered", () => answered > from + 20);
     for (let at = 0; at < 4; at++) {
-      await pause(300);
+      await someMore();
       await renew(hub.folder);
     }
-    await pause(300);
+    await someMore();
     isOn = false;
     await Promise.all(adding);
     equal(Number(await clients[0].sum("d", [0, "n"])), answered);
@@ -429,8 +440,8 @@ suite("generations", { concurrency: true }, () => {
     await tabs[1].type("#text", " you", 5);
     await all("Hello you");
     await tabs[1].evaluate(`document.querySelector("#text").setSelectionRange(5, 5)`);
-    await renew(hub.folder);
-    await pause(500);
+    const generation = await renew(hub.folder);
+    await until("the tabs follow", () => hasStored(tabs[1], generation));
     await tabs[1].insert(","); // where the caret is
     await all("Hello, you");
     equal(await caretOf(tabs[1]), 6);

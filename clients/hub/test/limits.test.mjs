@@ -151,19 +151,29 @@ suite("limits", { concurrency: false }, () => {
   });
 
   test("who sends nothing doesn't keep others out", async () => {
-    const server = await startServer(["d"]);
-    const hub = await startHub(server.address, "--patience", "2", "--idle", "4");
+    const [server, clock] = [await startServer(["d"]), new TestClock()];
+    const hub = await hubWithin({
+      server: server.address, lines: "127.0.0.1:0", patience: 2, idle: 4, clock, note() {},
+    });
     const watching = new Raw(hub.lines);
     await watching.ask(["open", "d"]);
     await watching.ask(["watch", "d"]);
     const silent = Array.from({ length: 50 }, () => held(hub.lines));
+    await until("they are connected", () => silent.every(({ socket }) => socket.readyState === "open"));
     const asked = held(hub.lines, '["version"]\n');
-    const from = performance.now();
+    await until("it is answered", () => asked.socket.bytesRead > 0);
+    await secondsOf(clock, 2);
+    equal(silent.filter(({ socket }) => socket.destroyed).length, 0);
+    await secondsOf(clock, 1);
     await within("the silent are dropped", Promise.all(silent.map(({ closed }) => closed)));
+    await secondsOf(clock, 1);
+    equal(asked.socket.destroyed, false);
+    await secondsOf(clock, 1);
     await within("so is the one that asked", asked.closed);
-    ok(performance.now() - from > 3500);
     equal(watching.isEnded, false);
-    equal(await watching.ask(["unwatch", "d"]).then(() => true), true);
+    watching.send(["unwatch", "d"]);
+    await until("it watches no more", () => watching.lines.includes('["unwatched","d"]'));
+    await secondsOf(clock, 5);
     await within("now it is, too", watching.ended);
   });
 

@@ -65,7 +65,7 @@ suite("many documents", { timeout: (SECONDS + 1500) * 1000 }, () => {
             if (round % 3 === 0) await pause(Math.random() * 100);
           }
         } catch {
-          await pause(200); // the hub was killed
+          await pause(50); // the hub was killed
         } finally {
           client?.end();
         }

@@ -276,7 +276,7 @@ test("an item that is a map, and values of several kinds, aren't replaced silent
   await tab.type("#ada .item", "typed");
   await tab.press("Enter");
   match((await tab.textOf("#ada .items .note"))[0], /There is a map, which can't be edited here/);
-  await pause(500);
+  await pause(150); // nothing comes of it
   const { note } = (await client.plain(document, [0, "shopping", 1]));
   equal(note, "a note in a map");
   // Nor is one that another puts there while something is typed.
@@ -557,7 +557,7 @@ test(`${LINES * 20} characters pasted offline: all are there after a reload, and
     ok(due.startsWith(text) && text.startsWith(seen), `${text.length} behind ${seen.length}`);
     if (text !== seen) parts++;
     seen = text;
-    await pause(500);
+    await pause(150); // reading a long text takes the page's time
     return text === due;
   }, SLOW_SECONDS).catch((error) => { throw new Error(`${error.message}, but ${seen.length}`); });
   context.diagnostic(`${due.length} characters came in ${parts} parts or more`);
@@ -641,7 +641,7 @@ test("New replicas: what no server has is asked for first", async () => {
   };
   await forget("Keep them");
   await forget(undefined);
-  await pause(500);
+  await pause(150); // nothing is lost
   await shot(tab, "kept");
   deepEqual(await tab.textOf("#ada .item"), ["nowhere else"]);
   await forget("Lose them");

@@ -213,7 +213,7 @@ suite("pushes", { concurrency: true }, () => {
     const text = "x".repeat(4000);
     const COUNT = 3000;
     for (let at = 0; at < COUNT; at++) bob.send(["assign", "d", [0, "k"], `${at} ${text}`]);
-    await until("all is changed", () => bob.lines.length >= COUNT, 60);
+    await until("all is changed", () => bob.lines.length >= COUNT);
     bob.lines.length = 0;
     ada.socket.resume();
     await until("the front of all has come", () => ada.lines.includes(`["changed","d",[["srv-1",${COUNT}]]]`));
@@ -252,7 +252,7 @@ suite("pushes", { concurrency: true }, () => {
     equal(await late.ask(["say", "d", "x".repeat(4095)]), '["no",6,"bad-value"]');
     equal(await late.ask(["unhear", "d"]), '["unheard","d"]');
     equal(await ada.ask(["say", "d", 1]), '["said"]');
-    await pause(200);
+    await pause(150); // presence is pushed ten times a second
     deepEqual([late.lines, eve.lines, ada.lines], [[], [], []]);
     [ada, eve, late].forEach((client) => client.end());
   });

@@ -7,16 +7,23 @@ import { join } from "node:path";
 import { test } from "node:test";
 import { fileURLToPath } from "node:url";
 import { memoryStore, Provider } from "../../js/provider.mjs";
+import { TestClock } from "../../js/test/clock.mjs";
 import { AWAY, freshFolder, health, metrics, serversOf, startDataHub, startNode } from "./data_hub.mjs";
 import {
-  atEnd, HUB, joinLines, kill, lacks, pause, PROGRAM, Raw, ROOM, suite, until, within,
+  atEnd, HUB, hubWithin, joinLines, kill, lacks, pause, PROGRAM, Raw, ROOM, suite, until, within,
 } from "./support.mjs";
 
 const HOLDER = fileURLToPath(new URL("../../../tests/hold-writes.c", import.meta.url));
 
 suite("servers that come and go", { concurrency: true }, () => {
   test("one that nobody uses ends, and comes back with what it had; who watches sees what follows", async () => {
-    const hub = await startDataHub(freshFolder(), "--close-after", "8");
+    const [clock, folder] = [new TestClock(), freshFolder()];
+    const ways = { lines: "127.0.0.1:0", web: "127.0.0.1:0" };
+    const hub = await hubWithin({ data: folder, program: PROGRAM, ...ways, closeAfter: 8, clock, note() {} });
+    const isUnused = async () => {
+      for (let second = 0; second < 10; second++) clock.pass(1000);
+      await until("its server has ended", () => serversOf(folder).length === 0);
+    };
     const [ada, bob] = [await joinLines(hub.lines, "d"), await joinLines(hub.lines, "d")];
     await ada.let("d", "it", [0, "k"]);
     const gone = new Promise((resolve) => (ada.reopened = resolve));
@@ -24,10 +31,10 @@ suite("servers that come and go", { concurrency: true }, () => {
     await bob.watch("d", (front) => fronts.push([...front.values()]));
     await ada.assign("d", ["it"], "word");
     await until("bob has seen it", () => fronts.some((it) => it.length === 1));
-    await until("its server has ended", () => serversOf(hub.folder).length === 0);
+    await isUnused();
     deepEqual(await within("ada hears that her name is gone", gone), [["d", "it"]]);
     deepEqual(await ada.values("d", [0, "k"]), ["word"]);
-    await until("its server has ended again", () => serversOf(hub.folder).length === 0);
+    await isUnused();
     await ada.assign("d", [0, "k"], "other");
     await until("bob has seen that, too", () => fronts.some((it) => it.length === 2));
     await until("its size is known", async () => { // whether its server runs or has ended again
@@ -76,7 +83,8 @@ suite("servers that come and go", { concurrency: true }, () => {
     let isOn = true;
     const killing = (async () => {
       for (let kills = 0; kills < 5; kills++) {
-        await pause(300);
+        const before = answered;
+        await until("some more are answered", () => answered > before + 20);
         const [id] = await until("its server runs", () => serversOf(hub.folder).length > 0 && serversOf(hub.folder));
         process.kill(id, "SIGKILL");
       }
@@ -104,7 +112,7 @@ suite("servers that come and go", { concurrency: true }, () => {
     const next = await startDataHub(hub.folder);
     const other = new Raw(next.lines);
     other.send(["open", "d"]);
-    await pause(1500);
+    await pause(150); // it isn't answered meanwhile
     deepEqual(other.lines, []);
     for (const id of ids) process.kill(id, "SIGCONT");
     match(await other.next(), /^\["opened",/);
@@ -130,7 +138,7 @@ suite("servers that come and go", { concurrency: true }, () => {
     client.send(["assign", "d", [0, "k"], 2]);
     await until("others see it", async () => /,2\]\]\]$/.test(await other.ask(["front", "d"])));
     other.send(["stored", "d", [2, id[1]]]);
-    await pause(1000);
+    await pause(150);
     deepEqual([client.lines, other.lines], [[], []]); // neither is told so
     rmSync(hold);
     equal(await client.next(), `["applied",1,0,[2,"${id[1]}"]]`);
@@ -225,8 +233,7 @@ suite("servers that come and go", { concurrency: true }, () => {
         const words = ["--data", folder, "--program", PROGRAM, "--lines", at, "--close-after", "1"];
         const { child } = await startNode([HUB, ...words], 1);
         hub = { child };
-      }
-      await pause(50);
+      } else if (round % 10 !== 4) await until("it is sent", () => both[round % 2].unsent.length === 0);
     }
     for (const it of both) await it.synced(240);
     for (const it of both) await it.synced(240);

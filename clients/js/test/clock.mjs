@@ -1,4 +1,7 @@
-/* A clock that a test sets: no time passes but by `pass`. Isn't run by itself. */
+/* Clocks of tests: one that a test sets, by which no time passes but by `pass`, and a quick one. Isn't run by
+   itself. */
+
+import { CLOCK } from "../clock.mjs";
 
 /** @typedef {{ at: number, ms: number, work: () => void, isRepeated: boolean }} Timer */
 
@@ -68,3 +71,12 @@ export class TestClock {
     this.#now = end;
   }
 }
+
+/** A clock by which so many seconds pass in one.
+ *  @param {number} times
+ *  @returns {import("../clock.mjs").Clock} */
+export const quickClock = (times) => ({
+  now: () => CLOCK.now() * times,
+  after: (ms, work, isHolding) => CLOCK.after(ms / times, work, isHolding),
+  every: (ms, work) => CLOCK.every(ms / times, work),
+});

@@ -2,7 +2,7 @@
 
 import { deepEqual, equal, ok, rejects, throws } from "node:assert/strict";
 import { test } from "node:test";
-import { Away, Replica, connected, freshName, parse, plain, print } from "../index.mjs";
+import { Away, Counter, Replica, connected, freshName, parse, plain, print } from "../index.mjs";
 import { engines } from "./engines.mjs";
 import { dice } from "./random.mjs";
 import { startServer } from "./support.mjs";
@@ -356,6 +356,33 @@ for (const [title, engine] of engines) {
         equal(print(it.show([0])), print(server.replica.show([0])));
       }
     }
+  });
+
+  test(`${title}: what is made again survives a delete by another, as it would have under its own name`, LIMIT, async () => {
+    const shown = [];
+    for (const isUsedTwice of [false, true]) {
+      const server = fakeServer();
+      const base = replicaOf("me");
+      base.put([0, "list"], [{ text: "a" }, { text: "b" }, { text: "c" }, "d"]);
+      await base.sync(server.answer);
+      const [me, copy] = [opened(base), opened(base)];
+      const other = replicaOf("other");
+      await other.sync(server.answer);
+      if (isUsedTwice) copy.assign([0, "title"], "of the copy");
+      await copy.sync(server.answer);
+      me.assign([0, "list", 1, "text"], "a of me");
+      me.add([0, "list", 2, "votes"], 3);
+      me.splice([0, "list"], 3, 0, [{ text: "behind c" }]);
+      me.delete([0, "list", 5]);
+      for (let count = 0; count < 4; count++) other.delete([0, "list", 1]);
+      await other.sync(server.answer);
+      await exchanged(me, server.answer);
+      equal(me.name === "me", !isUsedTwice);
+      equal(print(me.show([0])), print(server.replica.show([0])));
+      shown.push(me.plain([0, "list"]));
+    }
+    deepEqual(shown[0], [{ text: "a of me" }, { votes: new Counter(3) }, { text: "behind c" }]);
+    deepEqual(shown[1], shown[0]);
   });
 
   test(`${title}: what copies make again is made under a name of one's own where the server takes no more`, LIMIT, async () => {

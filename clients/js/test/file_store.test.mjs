@@ -266,7 +266,7 @@ test("a program that is killed at any moment loses nothing that it had said", as
     for (let number = 0; ; number++) {
       notes.replica.assign([0, "last"], number);
       process.stdout.write(number + "\\n");
-      await new Promise((resume) => setTimeout(resume, 1));
+      await new Promise(setImmediate);
     }`;
   let said = -1;
   for (const count of [1, 40, 150]) {

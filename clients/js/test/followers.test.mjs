@@ -124,6 +124,44 @@ test("who follows a list is told the same over each engine", { timeout: 900_000 
   for (let seed = 1; seed <= Number(process.env.SEEDS ?? 6); seed++) aHistory(seed);
 });
 
+/** What may be in a list beside scalars, and what only looks so.
+ *  @type {[string, (it: Replica) => any][]} */
+const BESIDE = [
+  ["nothing else", () => {}],
+  ["texts that look like others", (it) => it.splice([0, "t"], 9, 0, ["[]]]", "{}", '["add",1]', "[]"])],
+  ["a map", (it) => it.splice([0, "t"], 9, 0, [{ a: 1 }])],
+  ["an empty list", (it) => it.splice([0, "t"], 9, 0, [[]])],
+  ["a map in place of a character", (it) => it.assign([0, "t", 7], {})],
+  ["a text in an element that has none", (it) => it.assign([0, "t", 7, "deep"], "x")],
+  ["a counter in an element", (it) => it.add([0, "t", 7], 4)],
+  ["a deletion", (it) => it.delete([0, "t", 7])],
+  ["a list in a list of the same name", (it) => it.put([0, "other"], { t: [[], {}] })],
+];
+
+test("a watched list is as one that is read, where an empty replica takes all at once", () => {
+  for (const [title, engine] of engines) {
+    for (const [what, change] of BESIDE) {
+      const other = new Replica("bob", "d");
+      other.put([0, "t"], [..."x".repeat(300)]);
+      change(other);
+      const me = new Replica("ada", "d", { engine });
+      /** @type {any[][]} */
+      const calls = [];
+      me.watch([0, "t"], (splices) => calls.push(splices));
+      me.watch([0, "nowhere"], () => calls.push(["nothing concerns it"]));
+      me.deliverAll(other.lines().slice(1));
+      const again = Replica.restore(other.lines());
+      const now = new Replica("carl", "d");
+      now.watch([0, "t"], (splices) => calls.push(splices));
+      for (const op of again.operations()) now.deliver(op);
+      const [all, ...one] = calls;
+      const model = [];
+      for (const splices of one) for (const it of splices) model.splice(it.index, it.remove, ...it.insert);
+      deepEqual(all, [{ index: 0, remove: 0, insert: model }], `${title}: ${what}`);
+    }
+  }
+});
+
 /** The log of a text of so many characters. */
 const long = (() => {
   const me = new Replica("ada", "d");

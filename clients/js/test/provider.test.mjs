@@ -3,32 +3,13 @@
 import { deepEqual, equal, match, ok, rejects, throws } from "node:assert/strict";
 import { copyFileSync, readFileSync, readdirSync } from "node:fs";
 import { createServer } from "node:net";
-import node from "node:test";
-import { until, webSockets } from "./chromium.mjs";
+import { until } from "./chromium.mjs";
 import { TestClock } from "./clock.mjs";
+import { opened, test } from "./providing.mjs";
 import { end, room, start, startHub, startServer } from "./serving.mjs";
-import { Provider } from "../provider.mjs";
 import { fileStore } from "../file_store.mjs";
 import { connected } from "../session.mjs";
 import { Away } from "../wire.mjs";
-
-const WebSocket = webSockets()?.WebSocket;
-const providers = new Set();
-
-const test = (name, work, options = {}) => node(name, { timeout: 900_000, ...options }, async (t) => {
-  try {
-    await work(t);
-  } finally {
-    await Promise.allSettled([...providers].map((provider) => provider.close()));
-    providers.clear();
-  }
-});
-
-async function opened(at, options = {}) {
-  const provider = await Provider.open({ document: "d", at, WebSocket, ...options });
-  providers.add(provider);
-  return provider;
-}
 
 /** Lets a process stand still, and resolves once each of its threads does. */
 async function stop({ pid }) {

@@ -3,34 +3,17 @@
 import { deepEqual, equal, ok, rejects, throws } from "node:assert/strict";
 import { getEventListeners } from "node:events";
 import { createServer } from "node:net";
-import node from "node:test";
-import { until, webSockets } from "./chromium.mjs";
+import { until } from "./chromium.mjs";
 import { TestClock } from "./clock.mjs";
+import { opened, test } from "./providing.mjs";
 import { startHub, startServer } from "./serving.mjs";
-import { Provider, Unstored } from "../provider.mjs";
+import { Unstored } from "../provider.mjs";
 import { connected } from "../session.mjs";
 import { Away } from "../wire.mjs";
 
-const WebSocket = webSockets()?.WebSocket;
 /** What a page has: listeners of its own. */
 const page = new EventTarget();
 globalThis.addEventListener = page.addEventListener.bind(page);
-
-const providers = new Set();
-const test = (name, work) => node(name, { timeout: 900_000 }, async (t) => {
-  try {
-    await work(t);
-  } finally {
-    await Promise.allSettled([...providers].map((provider) => provider.close()));
-    providers.clear();
-  }
-});
-
-async function opened(at, options = {}) {
-  const provider = await Provider.open({ document: "d", at, WebSocket, ...options });
-  providers.add(provider);
-  return provider;
-}
 
 /** How many clients a hub has. */
 async function clientsOf({ page: address }) {

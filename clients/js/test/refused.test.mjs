@@ -3,31 +3,14 @@
 
 import { deepEqual, equal, match, ok, rejects, throws } from "node:assert/strict";
 import { readFileSync, writeFileSync } from "node:fs";
-import node from "node:test";
-import { until, webSockets } from "./chromium.mjs";
+import { until } from "./chromium.mjs";
+import { opened, test } from "./providing.mjs";
 import { room, startHub, startServer } from "./serving.mjs";
-import { Provider } from "../provider.mjs";
 import { fileStore } from "../file_store.mjs";
 import { connected } from "../session.mjs";
 import { Refused } from "../wire.mjs";
 
-const WebSocket = webSockets()?.WebSocket;
 const MOST = 100_000; // operations of a document, as docs/FORMATS.md has it
-const providers = new Set();
-const test = (name, work) => node(name, { timeout: 900_000 }, async (t) => {
-  try {
-    await work(t);
-  } finally {
-    await Promise.allSettled([...providers].map((provider) => provider.close()));
-    providers.clear();
-  }
-});
-
-async function opened(at, options = {}) {
-  const provider = await Provider.open({ document: "d", at, WebSocket, ...options });
-  providers.add(provider);
-  return provider;
-}
 
 /** A hub at which everybody may read, and those of ?token=writer may write too. */
 async function readers(server) {

@@ -2,36 +2,59 @@
 
 import { deepEqual, equal } from "node:assert/strict";
 import { copyFileSync } from "node:fs";
-import node from "node:test";
+import { connect, createServer } from "node:net";
+import { quickClock } from "./clock.mjs";
 import { dice } from "./random.mjs";
+import { opened, test } from "./providing.mjs";
 import { room, startServer } from "./serving.mjs";
 import { fileStore } from "../file_store.mjs";
-import { Provider } from "../provider.mjs";
 
-const providers = new Set();
+/** @typedef {object} Program A program over a store.
+ *  @property {string} file
+ *  @property {string} at
+ *  @property {string} document
+ *  @property {import("../clock.mjs").Clock} [clock]
+ *  @property {import("../provider.mjs").Provider} provider */
 
-const test = (name, work) => node(name, { timeout: 900_000 }, async (t) => {
-  try {
-    await work(t);
-  } finally {
-    await Promise.allSettled([...providers].map((provider) => provider.close()));
-    providers.clear();
-  }
-});
+const WAIT = 1200; // seconds, of a quick clock, too
+/** By it a program waits little for what a copy may send: up to five seconds. */
+const clock = quickClock(4);
 
-/** A provider of a store's file.
- *  @param {string} file
+/** @param {string} file
  *  @param {string} at
- *  @param {string} document */
-async function opened(file, at, document) {
-  const store = fileStore(file);
-  const provider = await Provider.open({ document, at, store, isOnline: false, word: "me" });
-  providers.add(provider);
-  return { file, provider };
+ *  @param {string} [document]
+ *  @param {import("../clock.mjs").Clock} [clock]
+ *  @returns {Promise<Program>} */
+async function storeOf(file, at, document = "d", clock) {
+  const options = { document, store: fileStore(file), isOnline: false, word: "me", clock };
+  return { file, at, document, clock, provider: await opened(at, options) };
+}
+
+/** A program over a copy of a store.
+ *  @param {Program} it
+ *  @param {string} word */
+function copied({ file, at, document, clock }, word) {
+  copyFileSync(file, `${file}-${word}`);
+  return storeOf(`${file}-${word}`, at, document, clock);
+}
+
+/** Starts a program again that is closed.
+ *  @param {Program} it */
+async function anew({ file, at, document, clock, provider }) {
+  await provider.close();
+  return storeOf(file, at, document, clock);
+}
+
+/** Starts a program again behind a kill: what its store has then goes on alone.
+ *  @param {Program} it */
+async function killed(it) {
+  const again = await copied(it, "killed");
+  await it.provider.close();
+  return again;
 }
 
 /** Appends a text to the list, and adds a vote: two edits.
- *  @param {{provider: Provider}} it
+ *  @param {Program} it
  *  @param {string} text */
 function edit({ provider: { replica } }, text) {
   replica.splice([0, "list"], replica.items([0, "list"]).length, 0, [text]);
@@ -40,29 +63,40 @@ function edit({ provider: { replica } }, text) {
 
 const online = async (all) => {
   for (const { provider } of all) provider.goOnline();
-  await Promise.all(all.map(({ provider }) => provider.synced(300)));
+  await Promise.all(all.map(({ provider }) => provider.synced(WAIT)));
 };
 
 const listed = ({ provider: { replica } }) => replica.items([0, "list"]).map(([, [text]]) => text).sort();
 
+const vote = ({ provider: { replica } }, count) => {
+  for (let number = 0; number < count; number++) replica.add([0, "votes"], 1);
+};
+
+/** Until all have what the others have. */
+async function settled(all) {
+  await online(all);
+  for (let turn = 0; turn < 2; turn++) await Promise.all(all.map(({ provider }) => provider.synced(WAIT)));
+}
+
 /** Whether each edit is everywhere exactly once, also where it is opened anew.
- *  @param {{file: string, provider: Provider}[]} all
+ *  @param {Program[]} all
  *  @param {string[]} texts
  *  @param {string} words */
 async function check(all, texts, words) {
-  for (let turn = 0; turn < 2; turn++) await Promise.all(all.map(({ provider }) => provider.synced(300)));
+  await settled(all);
   for (const it of all) {
     deepEqual(listed(it), [...texts].sort(), words);
     equal(it.provider.replica.sum([0, "votes"]), texts.length, words);
   }
 }
 
-/** A provider whose first edit a server has.
+/** A program whose first edit a server has.
  *  @param {string} file
  *  @param {string} at
- *  @param {string} document */
-async function begun(file, at, document) {
-  const it = await opened(file, at, document);
+ *  @param {string} [document]
+ *  @param {import("../clock.mjs").Clock} [clock] */
+async function begun(file, at, document, clock) {
+  const it = await storeOf(file, at, document, clock);
   it.provider.replica.assign([0, "list"], []);
   edit(it, "base");
   await online([it]);
@@ -79,12 +113,10 @@ test("a store copied while it is edited: whoever is online first, each edit is t
   for (const [at, { way, isEdited, isAnew }] of ways.entries()) {
     const folder = room();
     let me = await begun(`${folder}/store`, address, documents[at]);
-    if (isAnew) await me.provider.close();
-    if (isAnew) me = await opened(me.file, address, documents[at]);
+    if (isAnew) me = await anew(me);
     edit(me, "before 1");
     edit(me, "before 2");
-    copyFileSync(me.file, `${folder}/copy`);
-    const copy = await opened(`${folder}/copy`, address, documents[at]);
+    const copy = await copied(me, "copy");
     edit(me, "original 1");
     const texts = ["base", "before 1", "before 2", "original 1"];
     if (isEdited) for (const text of ["copy 1", "copy 2"]) {
@@ -103,8 +135,7 @@ test("a store that is read alone goes on under its name, also behind a kill", as
   const me = await begun(`${room()}/store`, address, "d");
   const { name } = me.provider.replica;
   edit(me, "stored");
-  await me.provider.close();
-  const again = await opened(me.file, address, "d");
+  const again = await anew(me);
   equal(again.provider.replica.name, name);
 });
 
@@ -119,58 +150,220 @@ async function round(seed) {
   const { below, chance, pick } = dice(seed);
   const { address, child } = await startServer(["d"]);
   const folder = room();
-  const all = [await begun(`${folder}/0`, address, "d")];
-  const texts = ["base"];
+  const all = [await begun(`${folder}/0`, address)];
+  const [texts, titles] = [["base"], []];
+  const copy = async (it) => {
+    if (all.length < 6) all.push(await copied(it, String(all.length)));
+  };
   for (let step = 0; step < 40; step++) {
     const it = pick(all);
+    const { replica } = it.provider;
     const turns = [
       ...Array(4).fill(() => {
         texts.push(`${seed} ${step}`);
         edit(it, `${seed} ${step}`);
       }),
-      async () => {
-        if (all.length > 5) return;
-        copyFileSync(it.file, `${folder}/${all.length}`);
-        all.push(await opened(`${folder}/${all.length}`, address, "d"));
+      async () => { // a card, of which a copy may have the beginning alone
+        if (!replica.keys([0]).includes("cards")) replica.put([0, "cards"], []);
+        replica.insert([0, "cards", 0], {});
+        const card = replica.place([0, "cards", 1]);
+        if (chance(0.3)) await copy(it);
+        titles.push(`${seed} ${step}`);
+        replica.assign([...card, "title"], `${seed} ${step}`);
       },
+      () => copy(it),
       () => it.provider.goOnline(),
       () => it.provider.goOffline(),
-      async () => {
-        await it.provider.close();
-        it.provider = (await opened(it.file, address, "d")).provider;
-      },
+      async () => { all[all.indexOf(it)] = await anew(it); },
       () => online(all.filter(() => chance(0.4))),
     ];
     await turns[below(turns.length)]();
   }
-  await online(all);
   await check(all, texts, `seed ${seed}`);
+  for (const { provider: { replica } } of all) {
+    const cards = titles.length > 0 ? replica.plain([0, "cards"]) : [];
+    deepEqual(cards.flatMap(({ title = [] }) => title).sort(), titles.sort(), `cards, seed ${seed}`);
+  }
   for (const { provider } of all) await provider.close();
   child.kill();
 }
 
-test("votes alike in the original and in copies, made while it was open or closed: each counts", async () => {
-  const ways = ["open", "closed"].flatMap((how) => [0, 1, 2].map((first) => ({ how, first })));
-  const documents = ways.map(({ how, first }) => `${how}-${first}`);
+test("votes alike in the original and in copies, made while it was open, closed, or one each: each counts", async () => {
+  const ways = ["open", "closed", "one each"].flatMap((how) => [0, 1, 2].map((first) => ({ how, first })));
+  const documents = ways.map((_, at) => `d${at}`);
   const { address } = await startServer(documents);
-  for (const [at, { how, first }] of ways.entries()) {
-    const file = `${room()}/store`;
-    let me = await begun(file, address, documents[at]);
-    const vote = ({ provider }, count) => {
-      for (let number = 0; number < count; number++) provider.replica.add([0, "votes"], 1);
-    };
+  await Promise.all(ways.map(async ({ how, first }, at) => {
+    let me = await begun(`${room()}/store`, address, documents[at], clock);
     vote(me, 2);
-    if (how === "closed") await me.provider.close();
-    for (const name of ["one", "two"]) copyFileSync(file, `${file}-${name}`);
-    if (how === "closed") me = await opened(file, address, documents[at]);
-    const copies = ["one", "two"].map((name) => opened(`${file}-${name}`, address, documents[at]));
-    const all = [me, ...await Promise.all(copies)];
+    const copies = { open: [], closed: ["one", "two"], "one each": ["one"] }[how];
+    if (copies.length > 0) await me.provider.close();
+    for (const word of copies) copyFileSync(me.file, `${me.file}-${word}`);
+    if (copies.length > 0) me = await storeOf(me.file, address, documents[at], clock);
+    vote(me, 1);
+    const others = ["one", "two"].map((word) => (copies.includes(word)
+      ? storeOf(`${me.file}-${word}`, address, documents[at], clock) : copied(me, word)));
+    const all = [me, ...await Promise.all(others)];
     for (const it of all) vote(it, 3);
     await online([all[first]]);
-    await online(all);
-    for (const it of all) {
-      await it.provider.synced(300);
-      equal(it.provider.replica.sum([0, "votes"]), 1 + 2 + 3 * 3, documents[at]);
+    await settled(all);
+    for (const it of all) equal(it.provider.replica.sum([0, "votes"]), 1 + 2 + 1 + 3 * 3, `${how} ${first}`);
+  }));
+});
+
+test("a copy of what the server has says where it begins, too: votes alike count", async () => {
+  const ways = [true, false].flatMap((isSynced) => ["original", "copy", "both"].map((first) => ({ isSynced, first })));
+  const documents = ways.map((_, at) => `d${at}`);
+  const { address } = await startServer(documents);
+  await Promise.all(ways.map(async ({ isSynced, first }, at) => {
+    const me = await begun(`${room()}/store`, address, documents[at], clock);
+    const copy = await copied(me, "copy");
+    if (isSynced) await online([copy]);
+    copy.provider.goOffline();
+    for (const it of [me, copy]) vote(it, 1);
+    if (first !== "both") await online([first === "copy" ? copy : me]);
+    await settled([me, copy]);
+    for (const it of [me, copy]) equal(it.provider.replica.sum([0, "votes"]), 3, `${isSynced} ${first}`);
+  }));
+});
+
+test("a card that was begun when the copy was made is one", async () => {
+  const ways = ["original", "copy", "both"].flatMap((first) => [true, false].map((isAnew) => ({ first, isAnew })));
+  const documents = ways.map((_, at) => `d${at}`);
+  const { address } = await startServer(documents);
+  for (const [at, { first, isAnew }] of ways.entries()) {
+    let me = await begun(`${room()}/store`, address, documents[at]);
+    me.provider.replica.insert([0, "list", 0], {});
+    let copy = await copied(me, "copy");
+    me.provider.replica.assign([0, "list", 1, "title"], "original's");
+    copy.provider.replica.assign([0, "list", 1, "text"], "copy's");
+    if (isAnew) [me, copy] = [await anew(me), await anew(copy)];
+    if (first !== "both") await online([first === "copy" ? copy : me]);
+    await settled([me, copy]);
+    for (const { provider: { replica } } of [me, copy]) {
+      deepEqual(replica.plain([0, "list"]), [{ title: "original's", text: "copy's" }, "base"], `${first} ${isAnew}`);
     }
   }
 });
+
+test("cards that were begun alike behind a closed store are two", async () => {
+  const { address } = await startServer(["closed", "killed"]);
+  await Promise.all(["closed", "killed"].map(async (how) => {
+    const me = await begun(`${room()}/store`, address, how, clock);
+    await me.provider.close();
+    copyFileSync(me.file, `${me.file}-copy`);
+    const all = [];
+    for (const [at, file] of [me.file, `${me.file}-copy`].entries()) {
+      const it = await storeOf(file, address, how, clock);
+      it.provider.replica.insert([0, "list", 0], {});
+      it.provider.replica.assign([0, "list", 1, "title"], `card ${at}`);
+      all.push(await (how === "closed" ? anew : killed)(it));
+      vote(all[at], 1);
+    }
+    await online([all[0]]);
+    await settled(all);
+    for (const { provider: { replica } } of all) {
+      const titles = replica.plain([0, "list"]).filter((it) => it !== "base").map(({ title }) => title);
+      deepEqual([titles.sort(), replica.sum([0, "votes"])], [["card 0", "card 1"], 3], how);
+    }
+  }));
+});
+
+/** A way to a server that holds what a program sends from a delivery on, until it is opened or closed. */
+class Gate {
+  /** Resolves once something is held. */
+  isHolding = new Promise((resolve) => (this.hold = resolve));
+  #isOpen = new Promise((resolve) => (this.open = resolve));
+  #sockets = new Set();
+  #left;
+
+  /** @param {string} at
+   *  @param {number} count How many deliveries pass. */
+  constructor(at, count) {
+    this.#left = count;
+    this.server = createServer((near) => this.#join(near, at.split(":")));
+  }
+
+  async listen() {
+    await new Promise((resolve) => this.server.listen(0, "127.0.0.1", resolve));
+    return `127.0.0.1:${this.server.address().port}`;
+  }
+
+  close() {
+    this.server.close();
+    for (const socket of this.#sockets) socket.destroy();
+  }
+
+  #join(near, [host, port]) {
+    const far = connect(Number(port), host);
+    this.#sockets.add(near);
+    let [rest, sent] = ["", Promise.resolve()];
+    near.setEncoding("utf8").on("data", (text) => {
+      const lines = (rest + text).split("\n");
+      rest = lines.pop();
+      for (const line of lines) sent = sent.then(() => this.#pass(line, far));
+    });
+    far.pipe(near);
+    for (const [one, other] of [[near, far], [far, near]]) one.on("error", () => {}).on("close", () => other.destroy());
+  }
+
+  async #pass(line, far) {
+    if (line.startsWith('["deliver"') && this.#left-- <= 0) {
+      this.hold();
+      await this.#isOpen;
+    }
+    far.write(`${line}\n`);
+  }
+}
+
+const EDITS = 80; // of two operations: more than two pages
+
+test("a store copied while its program sends what it has, in pages: each edit is there once", async () => {
+  const ways = [1, 40, 65, 130].flatMap((count) => ["copy", "original", "both", "killed"].map((how) => ({ count, how })));
+  const documents = ways.map((_, at) => `d${at}`);
+  const { address } = await startServer(documents);
+  for (const [at, { count, how }] of ways.entries()) {
+    const file = `${room()}/store`;
+    await (await begun(file, address, documents[at])).provider.close();
+    const gate = new Gate(address, count);
+    let me = await storeOf(file, await gate.listen(), documents[at]);
+    const texts = ["base", ...Array.from({ length: EDITS }, (_, number) => `before ${number}`)];
+    for (const text of texts.slice(1)) edit(me, text);
+    me.provider.goOnline();
+    await gate.isHolding;
+    const copy = await copied({ ...me, at: address }, "copy");
+    for (const [it, word] of [[me, "original"], [copy, "copy"]]) {
+      edit(it, word);
+      texts.push(word);
+    }
+    if (how === "copy") await online([copy]);
+    if (how === "killed") me = await killed({ ...me, at: address });
+    gate.open();
+    if (how === "original") await online([me]);
+    await check([me, copy], texts, `${how} behind ${count}`);
+    gate.close();
+  }
+});
+
+for (const isKnown of [true, false]) {
+  const before = isKnown ? "has sent something before" : "has a new name";
+  test(`a copy is killed while it sends, the program ${before}: what came of it is its own`, async () => {
+    const documents = Array.from({ length: 9 }, (_, count) => `d${count}`);
+    const { address } = await startServer(documents);
+    for (const [count, document] of documents.entries()) {
+      const file = `${room()}/store`;
+      const me = await (isKnown ? begun(file, address, document) : storeOf(file, address, document));
+      if (!isKnown) me.provider.replica.assign([0, "list"], []);
+      for (const text of isKnown ? ["one", "two"] : ["base", "one", "two"]) edit(me, text);
+      const gate = new Gate(address, count);
+      const copy = await copied({ ...me, at: await gate.listen() }, "copy");
+      edit(copy, "copy");
+      edit(me, "original");
+      copy.provider.goOnline();
+      await gate.isHolding;
+      const again = await killed({ ...copy, at: address });
+      gate.close();
+      await online([me]);
+      await check([me, again], ["base", "one", "two", "copy", "original"], `behind ${count}`);
+    }
+  });
+}

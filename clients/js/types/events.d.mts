@@ -1,37 +1,3 @@
-/** @typedef {import("./operations.mjs").Cursor} Cursor */
-/** @typedef {import("./operations.mjs").Id} Id */
-/** @typedef {import("./operations.mjs").Operation} Operation */
-/** @typedef {{index: number, remove: number, insert: any[]}} Splice As of Array.splice: to be
- *    made one after another. */
-/** @typedef {"own" | "undo" | "taken" | "remade"} Why */
-/** @typedef {object} Change Where an operation ended, by ids, and what it was.
- *  @property {Id} id
- *  @property {import("./protocol.mjs").EditWord} word
- *  @property {Cursor} place
- *  @property {any} [value] */
-/** @typedef {object} Event
- *  @property {Why} why
- *  @property {string[]} lines The operations, as they are stored. None with "remade".
- *  @property {string[]} [gone] With "remade": what was in the log, and isn't any more.
- *  @property {Id[]} ids
- *  @property {Change[]} changes */
-/** @typedef {(event: Event) => any} Heard */
-/** @typedef {(splices: Splice[], why: Why) => any} Changed */
-/** @typedef {object} Source What a watch asks for splices.
- *  @property {() => Splice[]} take What has changed since it was last called.
- *  @property {(op: Operation) => void} [note] Is called with each operation at, under or above the
- *    watch's place, once the engine has it, before `take`.
- *  @property {(all: Operation[]) => void} [renew] Anything may have changed before `take`: these are
- *    all operations.
- *  @property {() => void} end
- *  @property {number} [length] Of the list, if the source knows it. */
-/** @typedef {object} Watch
- *  @property {Cursor} place
- *  @property {string[]} texts Of the place.
- *  @property {Source} source
- *  @property {number} length Of the list, as the splices made it.
- *  @property {Changed} changed */
-/** @typedef {{line: string, op: Operation}} Logged */
 export class Events {
     /** @param {(error: any) => any} failed Is called with what a listener has thrown. */
     constructor(failed: (error: any) => any);
@@ -52,9 +18,10 @@ export class Events {
     /** Is called with what the engine has logged at once, before `log`.
      *  @param {Operation[]} ops */
     note(ops: import("./operations.mjs").Operation[]): void;
-    /** Is called in place of `note` where all that the engine has is new.
-     *  @param {Operation[]} all */
-    renew(all: import("./operations.mjs").Operation[]): void;
+    /** Is called in place of `note` and `log` with all that the engine has, where all of it is new.
+     *  @param {string[]} lines
+     *  @param {Why} why */
+    begin(lines: string[], why: Why): void;
     /** @param {string} line
      *  @param {Operation} op
      *  @param {Why} why */
@@ -123,7 +90,7 @@ export type Source = {
      * Anything may have changed before `take`: these are
      * all operations.
      */
-    renew?: ((all: import("./operations.mjs").Operation[]) => void) | undefined;
+    renew?: ((lines: string[]) => void) | undefined;
     end: () => void;
     /**
      * Of the list, if the source knows it.
@@ -142,8 +109,4 @@ export type Watch = {
      */
     length: number;
     changed: Changed;
-};
-export type Logged = {
-    line: string;
-    op: ["op", import("./operations.mjs").Id, import("./operations.mjs").Front, [import("./operations.mjs").Path, import("./operations.mjs").Key], import("./operations.mjs").Mutation];
 };

@@ -100,6 +100,11 @@ export type Core = {
      * Delivers operations as one batch.
      */
     take: (operations: any[]) => Taken;
+    /**
+     * Begins with operations, of which a server wrote
+     * these texts. Returns whether it has: else nothing is changed, and they are to be delivered.
+     */
+    begin: (lines: string[]) => boolean;
     isShared: () => boolean;
     /**
      * In milliseconds since some moment.
@@ -114,14 +119,14 @@ export type Core = {
      */
     wasOpen: () => boolean;
     /**
+     * Whether its name is of this opening of the store.
+     */
+    isNew: () => boolean;
+    /**
      * Deletes what isn't there.
      */
     say: (place: import("./operations.mjs").Cursor) => void;
-    /**
-     * A word of the time in which an own operation was
-     * made, from the opening of its store to its end.
-     */
-    sessionOf: (counter: number) => string;
+    sessionOf: import("./copies.mjs").SessionOf;
     /**
      * Is called with the operations that came, once more
      * have come, and are to be taken.

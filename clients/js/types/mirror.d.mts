@@ -15,8 +15,8 @@ export class Mirror implements Source {
      *  @param {Operation} op */
     note(op: import("./operations.mjs").Operation): void;
     /** Notes that anything may have changed.
-     *  @param {Operation[]} [all] All that the engine has, where that is known. */
-    renew(all?: import("./operations.mjs").Operation[] | undefined): void;
+     *  @param {string[]} [lines] All operations that the engine has, where these are known. */
+    renew(lines?: string[] | undefined): void;
     /** What has changed since it was last called.
      *  @returns {Splice[]} */
     take(): Splice[];

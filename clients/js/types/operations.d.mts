@@ -6,13 +6,6 @@ export function isPlaced([path, key]: [Path, Key]): boolean;
  *  @param {any} op
  *  @returns {asserts op is Operation} */
 export function checkShape(op: any): asserts op is Operation;
-/** Keeps the texts of the operations that were read of a reply `[WORD,[OPERATION,..]]`: so they needn't
- *  be written again. A quotation mark within a string has a backslash before it: so where `["op",[`
- *  is, one begins, unless it is no operation. Then the number of the parts is another, or one is no
- *  JSON: who uses these texts is to look at that.
- *  @param {any[]} operations
- *  @param {string} reply */
-export function keepTexts(operations: any[], reply: string): void;
 export function covers(front: ReadonlyMap<string, number>, [counter, replica]: Id): boolean;
 export function frontPairs(front: Iterable<[string, number]>): Front;
 export function compareIds(a: Id, b: Id): number;
@@ -21,7 +14,23 @@ export function isFront(value: any): value is Front;
 export function isAscending(front: Front): boolean;
 export function nextCounter(front: Front): number;
 export function keysOf([path, key]: [Path, Key]): Key[];
-export function textOf(operation: any[]): string | undefined;
+/** The operations of a reply `[WORD,[OPERATION,..]]`. Where it is written as a server writes it, they
+ *  are known by their texts, and aren't read before they are asked for: reading them takes several
+ *  times as long. */
+export class Page {
+    /** Throws SyntaxError for what is no JSON, and TypeError where there is no array of operations; or
+     *  `operations` does so later.
+     *  @param {string} reply */
+    constructor(reply: string);
+    /** @type {Map<string, number>} Of each replica: the last of its operations that is here. */
+    last: Map<string, number>;
+    /** @type {string[] | undefined} The operations' texts, where the reply is written so. */
+    texts: string[] | undefined;
+    get length(): number;
+    /** @returns {any[]} */
+    get operations(): any[];
+    #private;
+}
 /**
  * The name of an operation.
  */

@@ -14,6 +14,8 @@
  *  @property {string} name The new one.
  *  @property {number} forked From this counter on others have the ids of own operations.
  *  @property {number} sure Own insertions up to this counter are this replica's own.
+ *  @property {(same: number) => boolean} isOurs Whether what the server has up to this counter, and is
+ *    the same here, is this replica's own.
  *  @property {number} stored Copies of the store may have own operations up to this counter.
  *  @property {Set<number>} strays Own operations that the server has logged behind another's.
  *  @property {boolean} isRemade Whether own operations that the server lacks are made again.
@@ -79,6 +81,11 @@ export type How = {
      * Own insertions up to this counter are this replica's own.
      */
     sure: number;
+    /**
+     * Whether what the server has up to this counter, and is
+     * the same here, is this replica's own.
+     */
+    isOurs: (same: number) => boolean;
     /**
      * Copies of the store may have own operations up to this counter.
      */

@@ -43,6 +43,8 @@ export class Replica {
     isFiled: boolean;
     /** Whether what was restored may be that of a program that goes on: its store wasn't closed. */
     wasOpen: boolean;
+    /** Whether its name is of this opening of the store: so only copies that were made since have it. */
+    isNew: boolean;
     /** For tests: what waiting goes by.
      *  @type {import("./clock.mjs").Clock} */
     clock: import("./clock.mjs").Clock;
