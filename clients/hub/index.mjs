@@ -94,6 +94,7 @@ function stateOf(options, places) {
 function withShelf(state, shelf) {
   state.shelf = shelf;
   state.desk = new Desk(shelf, () => state.figures.states(state));
+  shelf.isWatched = state.watches.isWatched;
   shelf.came = (document) => void state.watches.look(document);
   shelf.renewed = (document, generation) => state.watches.renewed(document, generation);
   shelf.leaves = (document) => {

@@ -32,6 +32,7 @@ const RETRY_MS = [100, 200, 500, 1000, 2000];
 const WAIT_MS = 500; // that a reading of streams waits for more
 const TOUCHES = 4; // in the time of a lease
 const HOLD_LEASES = 3; // so long a renewal may hold changes back
+const ENTRY = /^(\d{1,9}-[a-z2-7]{10}) ([0-9a-f]{64})$/;
 const UNFOUNDED = "unfounded"; // an id's first word until an operator founds the fleet
 const UNTIL_FOUNDED = "nothing is renewed until an operator founds it";
 const DISK_MS = 2000; // until an append-only file that is synced each second has what was written
@@ -65,9 +66,11 @@ export const digestOf = (text) => createHash("sha256").update(text).digest("hex"
 /** @param {Decision} decision */
 const entryOf = ({ generation, digest }) => `${generation} ${digest}`;
 
-/** @param {string} entry @returns {Decision} */
+/** @param {string} entry @returns {Decision}
+ *  @throws {Error} for what is none: a generation is part of a file's name */
 export function decisionOf(entry) {
-  const [generation = "", digest = ""] = entry.split(" ");
+  const [, generation = "", digest = ""] = ENTRY.exec(entry) ?? [];
+  if (!generation) throw new Error("Redis has something else in place of a generation");
   return { generation, digest };
 }
 
@@ -95,6 +98,9 @@ export class Fleet {
   #readerId = 0;
   /** @type {Set<SharedDocument>} */
   #shared = new Set();
+  /** Documents that are closed and watched, by their streams: one is opened when others change it.
+   *  @type {Map<string, { document: string, last: string }>} */
+  #asleep = new Map();
   #run = ""; // of the Redis
   /** @type {string | undefined} the fleet that this hub is of */
   #known;
@@ -202,16 +208,25 @@ export class Fleet {
     for (;;) {
       const reader = /** @type {Redis} */ (this.#reader);
       const streams = [...this.#shared].map(({ stream }) => stream).filter((it) => it.takes);
-      const from = streams.map(({ last }) => last);
+      const from = new Map(streams.map(({ key, last }) => [key, last]));
+      for (const [key, { last }] of this.#asleep) from.set(key, last);
       const found = await reader.ask("XREAD", "COUNT", 100, "BLOCK", WAIT_MS, "STREAMS",
-        DOCUMENTS, ...streams.map(({ key }) => key), this.#namesAt, ...from);
+        DOCUMENTS, ...from.keys(), this.#namesAt, ...from.values());
       for (const [key, entries] of found ?? []) {
-        const at = streams.findIndex((it) => it.key === key);
-        if (at >= 0) streams[at]?.take(entries, from[at] ?? "");
-        else this.#takeNames(entries);
+        const stream = streams.find((it) => it.key === key);
+        if (stream) stream.take(entries, from.get(key) ?? "");
+        else if (key === DOCUMENTS) this.#takeNames(entries);
+        else this.#wake(key);
       }
       if (this.#redis?.over) throw new RedisAway(await this.#redis.closed);
     }
+  }
+
+  /** @param {string} key of a stream */
+  #wake(key) {
+    const asleep = this.#asleep.get(key);
+    this.#asleep.delete(key);
+    if (asleep) this.open(asleep.document).catch(() => {});
   }
 
   /** Has the reading look at other streams than before. */
@@ -365,12 +380,19 @@ export class Fleet {
   /** @param {SharedDocument} shared */
   async share(shared) {
     this.#shared.add(shared);
+    this.#asleep.delete(shared.stream.key);
     await this.#readOthers();
   }
 
   /** @param {SharedDocument} shared */
   unshare(shared) {
     this.#shared.delete(shared);
+  }
+
+  /** Has a document opened that is closed when others change it.
+   *  @param {string} document @param {import("./stream.mjs").Stream} stream */
+  sleep(document, { key, last }) {
+    this.#asleep.set(key, { document, last });
   }
 
   // ---- The directory

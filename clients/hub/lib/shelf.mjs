@@ -61,6 +61,9 @@ export class Shelf {
   /** Is called before a document goes, or gets another name.
    *  @type {(document: string) => void} */
   leaves = () => {};
+  /** Says whether clients watch a document.
+   *  @type {(document: string) => boolean} */
+  isWatched = () => false;
   /** Is called when operations of other hubs are there.
    *  @type {(document: string) => void} */
   came = () => {};
@@ -380,13 +383,26 @@ export class Shelf {
   async #unshare(document, isHomeStill) {
     const shared = this.#shared.get(document);
     await shared?.end(isHomeStill);
+    const isAsleep = shared && !isHomeStill && this.isWatched(document);
+    if (isAsleep) this.#options.fleet?.sleep(document, shared.stream);
     if (this.#shared.get(document) === shared) this.#shared.delete(document);
   }
 
   /** Goes on in a later generation of a document, which another hub has made. Who uses it waits.
    *  @param {string} document */
   async #follow(document) {
-    if (this.#renewing.has(document) || this.#making.has(document) || this.#isStopped) return;
+    const isBusy = () => this.#renewing.has(document) || this.#making.has(document) || this.#isStopped;
+    const { fleet } = this.#options;
+    if (!fleet || isBusy()) return;
+    const { generation } = await this.folder.record(document);
+    const later = await fleet.later(document, generation);
+    for (const it of later) await fleet.mapText(document, it); // throws where it can't be followed yet
+    if (later.length === 0 || isBusy()) return;
+    await this.#followNow(document);
+  }
+
+  /** @param {string} document */
+  async #followNow(document) {
     let goOn = () => {};
     this.#renewing.set(document, new Promise((resolve) => (goOn = () => resolve())));
     try {
@@ -398,11 +414,18 @@ export class Shelf {
       if (open) await this.#end(open);
       await this.#unshare(document);
       const generation = await this.#takenOver(document);
-      if (generation !== undefined) this.#clock.after(0, () => this.renewed(document, generation));
+      if (generation !== undefined) this.#clock.after(0, () => this.#sayRenewed(document, generation));
     } finally {
       this.#renewing.delete(document);
       goOn();
     }
+  }
+
+  /** Opens a document again that goes on in another generation, and lets its clients know.
+   *  @param {string} document @param {string} generation */
+  async #sayRenewed(document, generation) {
+    await this.use(document, async () => "").catch(() => {}); // else who asks next opens it
+    this.renewed(document, generation);
   }
 
   /** Takes over the last generation of a document that other hubs have, where it is a later one. Returns
@@ -505,7 +528,12 @@ export class Shelf {
 
   #closeIdle() {
     const since = this.#clock.now() - this.#options.closeAfter;
-    for (const it of this.#unused()) if (it.usedAt < since) this.#close(it);
+    const names = new Map([...this.#documents].map(([name, open]) => [open, name]));
+    for (const it of this.#unused()) {
+      // Where hubs share it, another one's changes are to be pushed.
+      const isNeeded = this.#options.fleet && this.isWatched(names.get(it) ?? "");
+      if (it.usedAt < since && !isNeeded) this.#close(it);
+    }
   }
 
   /** Those that may be closed, the one that wasn't used for longest first. */

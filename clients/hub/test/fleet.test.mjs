@@ -46,17 +46,52 @@ suite("fleet", { skip: lacking, concurrency: true }, () => {
     const redis = await RedisServer.started();
     const a = await startFleetHub(redis, "a");
     const ada = await joinLines(a.lines, "d");
-    for (let at = 0; at < 300; at++) await ada.add("d", [0, "n"], 1).catch(() => at--);
-    await kill(a.child); // nothing of it is left but its file and Redis
+    for (let at = 0; at < 300; at++) await assign(ada, `k${at}`, at);
+    await kill(a.child, "SIGTERM"); // nothing of it is left but its file and Redis
     const b = await startFleetHub(redis, "b");
     const bob = await joinLines(b.lines, "d");
-    await until("b has all", async () => (await bob.sum("d", [0, "n"])) === 300);
+    await until("b has all", async () => (await bob.keys("d", [0])).length === 300);
     await assign(bob, "of-b", 2);
     redis.ask("FLUSHALL");
     await kill(b.child);
     const again = await startFleetHub(redis, "a", a.folder);
     await sees(await joinLines((await startFleetHub(redis, "b", b.folder)).lines, "d"), "of-b", 2);
     await sees(await joinLines(again.lines, "d"), "of-b", 2);
+  });
+
+  test("a stream that is cut, emptied or has something else is made whole", async () => {
+    const redis = await RedisServer.started();
+    const [a, b] = await fleetOf(redis, "a", "b");
+    const [ada, bob] = [await joinLines(a.lines, "d"), await joinLines(b.lines, "d")];
+    for (let at = 0; at < 200; at++) await assign(at % 2 ? ada : bob, `k${at}`, at);
+    await sees(bob, "k199", 199);
+    const [key] = redis.ask("KEYS", "jcrdt:hubs:ops:d:*").split("\n");
+    const length = () => Number(redis.ask("XLEN", key));
+    for (const words of [["XTRIM", key, "MAXLEN", "7"], ["DEL", key]]) {
+      redis.ask(...words);
+      redis.ask("XADD", key, "*", "hub", "x", "ops", "[nothing]");
+      await until("it is whole", () => length() > 7);
+      for (const it of [ada, bob]) await assign(it, words[0], words.length);
+      for (const it of [ada, bob]) await sees(it, words[0], words.length);
+    }
+    await kill(a.child);
+    await kill(b.child);
+    const c = await startFleetHub(redis, "c");
+    const cyd = await joinLines(c.lines, "d");
+    await until("c has all", async () => (await cyd.keys("d", [0])).length === 202);
+  });
+
+  test("who watches a document gets what is changed at another hub, also once its server has ended", async () => {
+    const redis = await RedisServer.started();
+    const a = await startFleetHub(redis, "a");
+    const b = await startFleetHub(redis, "b", undefined, "--open", "1");
+    const [ada, bob] = [await joinLines(a.lines, "d"), await joinLines(b.lines, "d", "e")];
+    const pushed = [];
+    await bob.watch("d", (front) => pushed.push(front));
+    await bob.show("e", [0]); // this takes the room of d's server
+    await until("d's server has ended", async () => (await health(b)).documents.open === 1);
+    await assign(ada, "x", 1);
+    await until("it is pushed", () => pushed.some((front) => front.size > 0));
   });
 
   test("one hub renews a document, and the others follow with their clients", async () => {

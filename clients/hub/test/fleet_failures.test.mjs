@@ -5,10 +5,10 @@
 import { equal, match, ok, rejects } from "node:assert/strict";
 import { readFileSync } from "node:fs";
 import { test } from "node:test";
-import { command, health } from "./data_hub.mjs";
+import { command, health, serversOf } from "./data_hub.mjs";
 import {
   assign, checkFleet, fleetOf, found, isFounded, lacking, LEASE, recordOf, RedisServer, sees, startFleetHub,
-  startStoppedHub, Writers,
+  startStoppedHub, Way, Writers,
 } from "./redis_parts.mjs";
 import { joinLines, kill, pause, suite, until } from "./support.mjs";
 
@@ -89,6 +89,54 @@ suite("fleet failures", { skip: lacking, concurrency: 3 }, () => {
     }
     await writers.stop();
     equal(await checkFleet([a, b, c], writers), 4);
+  });
+
+  test("a hub that is cut off takes changes for its lease, and others renew behind that", async () => {
+    const redis = await RedisServer.started();
+    const way = await Way.to(redis);
+    const [a, b] = [await startFleetHub(redis, "a"), await startFleetHub(way, "b")];
+    await found(a, b);
+    const writers = new Writers({ a, b });
+    await writers.go();
+    for (let round = 0; round < 2; round++) {
+      way.cut();
+      const cut = performance.now();
+      const generation = await renewed([a]);
+      await writers.go(20, ["a"]);
+      const late = writers.taken.filter(({ key, sent }) => key.startsWith("b-") && sent > cut + LEASE_MS);
+      equal(late.length, 0);
+      way.mend();
+      await generationIs(b, generation);
+      await writers.go();
+    }
+    await writers.stop();
+    equal(await checkFleet([a, b], writers), 3);
+  });
+
+  test("a change that its server carries out once the lease is over isn't answered as taken", async () => {
+    const redis = await RedisServer.started();
+    const [a, b] = await fleetOf(redis, "a", "b");
+    const [ada, bob] = [await joinLines(a.lines, "d"), await joinLines(b.lines, "d")];
+    await assign(ada, "x", 1);
+    await assign(bob, "y", 1);
+    await sees(ada, "y", 1);
+    await kill(a.child, "SIGTERM");
+    const again = await startFleetHub(redis, "a", a.folder);
+    const cyd = await joinLines(again.lines, "d");
+    await assign(cyd, "z", 1);
+    await kill(b.child, "SIGTERM"); // so that a is home
+    const other = await startFleetHub(redis, "b", b.folder);
+    const dan = await joinLines(other.lines, "d");
+    await assign(dan, "w", 1);
+    const [server] = serversOf(other.folder);
+    process.kill(server, "SIGSTOP");
+    const late = dan.assign("d", [0, "late"], 1).then(() => "taken", (error) => error.name);
+    const generation = await renewed([again]);
+    await assign(cyd, "next", 1);
+    process.kill(server, "SIGCONT");
+    equal(await late, "Lost");
+    await generationIs(other, generation);
+    await sees(cyd, "late", 1); // it was carried out, and is made again
   });
 
   test("Redis is emptied while a hub is stopped that doesn't know the next generation", async () => {

@@ -59,6 +59,46 @@ export class RedisServer {
   }
 }
 
+/** A way to a Redis that can be cut: what is sent then waits. */
+export class Way {
+  static async to(redis) {
+    const way = new Way();
+    way.server = net.createServer((socket) => {
+      const other = net.connect(redis.port, "127.0.0.1");
+      const pair = [socket, other];
+      for (const it of pair) {
+        way.sockets.add(it);
+        it.on("error", () => {}).on("close", () => {
+          way.sockets.delete(it);
+          for (const one of pair) one.destroy();
+        });
+        it.on("data", (bytes) => pair[1 - pair.indexOf(it)].write(bytes));
+        if (way.isCut) it.pause();
+      }
+    });
+    await new Promise((resolve) => way.server.listen(0, "127.0.0.1", resolve));
+    way.address = `127.0.0.1:${way.server.address().port}`;
+    atEnd(() => {
+      for (const it of way.sockets) it.destroy();
+      way.server.close();
+    });
+    return way;
+  }
+
+  sockets = new Set();
+  isCut = false;
+
+  cut() {
+    this.isCut = true;
+    for (const it of this.sockets) it.pause();
+  }
+
+  mend() {
+    this.isCut = false;
+    for (const it of this.sockets) it.resume();
+  }
+}
+
 let hubs = 0;
 /** Starts a hub of a fleet, with a folder of its own unless one is given. */
 export async function startFleetHub(redis, name, folder = join(ROOM, `fleet-${++hubs}`), ...options) {
