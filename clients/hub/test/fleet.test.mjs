@@ -71,14 +71,16 @@ suite("fleet", { skip: lacking, concurrency: true }, () => {
       redis.ask(...words);
       redis.ask("XADD", key, "*", "hub", "x", "ops", "[nothing]");
       await until("it is whole", () => length() > 7);
-      for (const it of [ada, bob]) await assign(it, words[0], words.length);
-      for (const it of [ada, bob]) await sees(it, words[0], words.length);
+      await assign(ada, `${words[0]}-a`, 1);
+      await assign(bob, `${words[0]}-b`, 2);
+      await sees(bob, `${words[0]}-a`, 1);
+      await sees(ada, `${words[0]}-b`, 2);
     }
     await kill(a.child);
     await kill(b.child);
     const c = await startFleetHub(redis, "c");
     const cyd = await joinLines(c.lines, "d");
-    await until("c has all", async () => (await cyd.keys("d", [0])).length === 202);
+    await until("c has all", async () => (await cyd.keys("d", [0])).length === 204);
   });
 
   test("who watches a document gets what is changed at another hub, also once its server has ended", async () => {

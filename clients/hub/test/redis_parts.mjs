@@ -169,6 +169,7 @@ export class Writers {
   constructor(hubs, document = "d", each = 2) {
     this.hubs = hubs;
     this.document = document;
+    atEnd(() => void (this.#isOn = false)); // also where the test fails
     this.#running = Object.keys(hubs).flatMap((name) => Array.from({ length: each }, () => this.#write(name)));
   }
 
@@ -181,7 +182,7 @@ export class Writers {
         while (this.#isOn) await this.#change(client, name);
       } catch (error) {
         if (!["Away", "Lost", "Refused"].includes(error.name)) throw error;
-        await pause(50);
+        await pause(this.#isOn ? 50 : 0);
       } finally {
         client?.end();
       }

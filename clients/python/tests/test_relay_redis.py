@@ -110,6 +110,43 @@ def test_bad_entries_are_skipped(serve: Serve, relay: Callable[..., Relay], redi
         assert kept.end() == 0, kept.errors()
 
 
+def test_what_is_no_operation_of_a_batch_is_skipped(serve: Serve, relay: Callable[..., Relay],  # noqa: F811
+                                                    redis: Callable[..., Redis]) -> None:
+    """Beside it there are others, of which the second waits for the first. An array of something else, and none, is named."""
+    store = redis()
+    store.add('[["op",[2,"x"],[["x",1]],[[["m",0]],"two"],["assign",2]],"hello",["op",[9,"x"],[],[[],0],["delete"]],'
+              '["op",[1,"x"],[],[[["m",0]],"one"],["assign",1]]]', "ops")
+    for text in ('{"op":1}', "[5]", "[", ""):
+        store.add(text, "ops")
+    (alice, bob), relays = pair(serve, relay, store.address)
+    for site in (alice, bob):
+        comes(site, "one", last=1)
+        comes(site, "two", last=2)
+    for kept in relays:
+        wait_for(lambda: "all 2 agree" in kept.output())
+        assert kept.errors().count("is skipped") == 5, kept.errors()
+
+
+def test_many_at_once_are_few_entries(serve: Serve, relay: Callable[..., Relay],  # noqa: F811
+                                      redis: Callable[..., Redis]) -> None:
+    """What a server has already is added by many to an entry, each entry fits a line unless it is one operation, and a relay
+    reads what it added itself after a cut alone."""
+    store = redis()
+    alice, bob = (serve("d", name=name) for name in ("alice", "bob"))
+    asked(alice.address, *(["assign", "d", [0, f"k{number}"], number] for number in range(3000)),
+          *(["assign", "d", [0, f"long{number}"], "x" * 4000] for number in range(40)))
+    relays = [relay(site.address, "--redis", store.address) for site in (alice, bob)]
+    comes(bob, "long39", last="x" * 4000)
+    assert store.length() < 20
+    store.raw("DEL", "jcrdt:d")
+    wait_for(lambda: store.length() >= 5)
+    carol = serve("d", name="carol")
+    again = relay(carol.address, "--redis", store.address)
+    comes(carol, "k2999", last=2999)
+    for kept in (*relays, again):
+        wait_for(lambda: "all 2 agree" in kept.output())
+
+
 def test_a_made_up_counter_silences_nobody(serve: Serve, relay: Callable[..., Relay],  # noqa: F811
                                            redis: Callable[..., Redis]) -> None:
     """An entry of a counter that alice hasn't reached, behind one that nobody has; and its dependency later."""
