@@ -11,6 +11,7 @@ import tls from "node:tls";
 
 const PORT = 6379;
 const CONNECT_MS = 5000;
+const TICK_MS = 250;
 const WRONG = "redis is HOST:PORT or a URL";
 const LINE_END = "\r\n";
 
@@ -59,12 +60,11 @@ export class Redis {
   closed;
   #socket;
   #silence;
-  #clock;
+  #ticks = 0; // since it was heard: they stand still with the process, so nothing is late after a pause
   /** @type {Waiting[]} */
   #waiting = [];
   #answered = 0; // of those that wait
   #replies = new ReplyReader();
-  #heardAt = 0;
   #stopTicks;
 
   /** @param {RedisAddress} address
@@ -72,7 +72,6 @@ export class Redis {
    *  @param {import("../../js/clock.mjs").Clock} clock */
   constructor({ host, port, isSecret }, silence, clock) {
     this.#silence = silence;
-    this.#clock = clock;
     const at = { host, port, noDelay: true, keepAlive: true };
     this.#socket = isSecret ? tls.connect({ ...at, servername: net.isIP(host) ? "" : host })
       : net.connect(at);
@@ -83,7 +82,7 @@ export class Redis {
       this.#lose(cause);
       resolve(cause);
     }));
-    this.#stopTicks = clock.every(Math.max(10, silence / 4), () => this.#endSilent());
+    this.#stopTicks = clock.every(TICK_MS, () => this.#endSilent());
   }
 
   /** A connection that is greeted. Throws RedisError or RedisAway.
@@ -109,7 +108,7 @@ export class Redis {
    *  @returns {Promise<any>} */
   ask(...words) {
     if (this.over) return Promise.reject(new RedisAway("the connection has ended"));
-    if (this.#waiting.length === 0) this.#heardAt = this.#clock.now();
+    if (this.#waiting.length === 0) this.#ticks = 0;
     const reply = new Promise((resolve, reject) => this.#waiting.push({ resolve, reject }));
     const parts = words.map((word) => `$${Buffer.byteLength(`${word}`)}${LINE_END}${word}${LINE_END}`);
     if (this.#socket.writableCorked === 0) {
@@ -128,7 +127,7 @@ export class Redis {
 
   /** @param {Buffer} bytes */
   #take(bytes) {
-    this.#heardAt = this.#clock.now();
+    this.#ticks = 0;
     this.#replies.take(bytes);
     try {
       for (let reply; (reply = this.#replies.next()) !== undefined; ) {
@@ -145,8 +144,8 @@ export class Redis {
   }
 
   #endSilent() {
-    const isLate = this.#waiting.length > 0 && this.#clock.now() - this.#heardAt > this.#silence;
-    if (isLate) this.#socket.destroy(new Error(`no reply for ${this.#silence / 1000} s`));
+    const isLate = ++this.#ticks * TICK_MS > this.#silence;
+    if (this.#waiting.length > 0 && isLate) this.#socket.destroy(new Error(`no reply for ${this.#silence / 1000} s`));
   }
 
   /** @param {string} cause */

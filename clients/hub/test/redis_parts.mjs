@@ -119,7 +119,7 @@ export async function startStoppedHub(redis, name, folder, step, signal = "SIGST
 export async function found(...all) {
   const names = all.map(({ name }) => name).join(",");
   await until(`${names} are founded`, async () => {
-    const { status } = spawnSync(process.execPath, [HUB, "--data", all[0].folder, "found", names], { encoding: "utf8" });
+    const { status } = await command(all[0].folder, "found", names);
     return status === 0;
   });
   for (const it of all) await isFounded(it);

@@ -1,5 +1,7 @@
 """Relays that meet in a real Redis: bad entries, streams that are cut, and how a Redis is named."""
 
+import importlib
+import json
 import os
 import re
 import shutil
@@ -64,6 +66,12 @@ class Redis:
 
     def length(self) -> int:
         return int(self.raw("XLEN", "jcrdt:d").split()[-1])
+
+    def operations(self) -> int:
+        """How many operations the entries have."""
+        client: Any = importlib.import_module("redis").Redis(unix_socket_path=self.path)
+        entries = client.xrange("jcrdt:d")
+        return sum(len(json.loads(fields[b"ops"])) for _, fields in entries)
 
     def kill(self) -> None:
         self.process.kill()
@@ -194,17 +202,18 @@ def test_what_was_cut_is_added_again(serve: Serve, relay: Callable[..., Relay], 
     """A site that joins after a cut gets everything, also if all relays were started again after it."""
     store = redis()
     (alice, bob), relays = pair(serve, relay, store.address)
-    write(alice, "k", 500)
-    comes(bob, "k", last=499)
-    assert store.length() == 500
+    for part in range(5):
+        write(alice, f"k{part}", 100)
+        comes(bob, f"k{part}", last=99)
+    assert store.operations() == 500 and store.length() >= 5
     if how == "killed":
         store.kill()
         store.start()
     elif how == "XDEL":
-        entry = store.raw("XRANGE", "jcrdt:d", "-", "+", "COUNT", "100").decode().split("op")[50].split()[-1].strip()
+        entry = store.raw("XRANGE", "jcrdt:d", "-", "+", "COUNT", "2").decode().split("\n")[0].strip()
         assert store.raw("XDEL", "jcrdt:d", entry).strip() == b"1", entry
     else:
-        store.raw(*{"FLUSHALL": ["FLUSHALL"], "DEL": ["DEL", "jcrdt:d"], "XTRIM": ["XTRIM", "jcrdt:d", "MAXLEN", "100"]}[how])
+        store.raw(*{"FLUSHALL": ["FLUSHALL"], "DEL": ["DEL", "jcrdt:d"], "XTRIM": ["XTRIM", "jcrdt:d", "MAXLEN", "1"]}[how])
     if how == "XTRIM":
         for kept in relays:
             kept.end()
@@ -219,8 +228,8 @@ def test_what_was_cut_is_added_again(serve: Serve, relay: Callable[..., Relay], 
     if how not in ("killed", "XTRIM"):
         assert any("entries are gone; " in it.errors() for it in relays)
     # What is left of the 500 is at most 499. Two relays that look at the same moment both add all that misses: once each.
-    left = {"XDEL": 499, "XTRIM": 100}.get(how, 0)
-    assert store.length() <= left + 2 * 503
+    left = {"XDEL": 499, "XTRIM": 499}.get(how, 0)
+    assert store.operations() <= left + 2 * 503
     assert all(it.end() == 0 for it in (*relays, joined))
 
 
