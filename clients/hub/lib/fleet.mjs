@@ -35,6 +35,8 @@ const HOLD_LEASES = 3; // so long a renewal may hold changes back
 const ENTRY = /^(\d{1,9}-[a-z2-7]{10}) ([0-9a-f]{64})$/;
 const UNFOUNDED = "unfounded"; // an id's first word until an operator founds the fleet
 const UNTIL_FOUNDED = "nothing is renewed until an operator founds it";
+const OVER = "its time to be renewed was over";
+const LOOK_MS = 10; // between two looks whether others take changes
 const DISK_MS = 2000; // until an append-only file that is synced each second has what was written
 const OLD_MS = 7 * 86_400_000; // so long the operations of an older generation stay
 const NAMES = 1000; // that are read at once
@@ -431,9 +433,14 @@ export class Fleet {
   }
 
   /** Resolves once no other hub takes changes in a document: each has said so, or its lease is over.
-   *  @param {string} document */
-  async untaken(document) {
-    while (await this.#script("takers", [takers(document)], this.me)) await pauseBy(this.clock, 10);
+   *  @param {string} document @param {string} token of the hold */
+  async untaken(document, token) {
+    for (;;) {
+      const count = await this.#script("takers", [takers(document), hold(document)], this.me, token);
+      if (count === 0) return;
+      if (count < 0) throw new Error(OVER);
+      await pauseBy(this.clock, LOOK_MS);
+    }
   }
 
   /** Lets others take changes again.
@@ -451,7 +458,7 @@ export class Fleet {
     if (!this.#isOurs(id)) throw new Error("Redis doesn't know the fleet any more");
     const keys = [ID, hold(document), key];
     const decided = await this.#script("decide", keys, id, token, entry);
-    if (!decided) throw new Error("its time to be renewed was over");
+    if (!decided) throw new Error(OVER);
     if (decided !== entry) return decisionOf(decided);
     const isOnDisk = /aof_enabled:1/.test(await this.ask("INFO", "persistence"));
     if (isOnDisk) await pauseBy(this.clock, DISK_MS);

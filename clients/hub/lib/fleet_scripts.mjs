@@ -35,8 +35,9 @@ if redis.call('GET', KEYS[1]) ~= ARGV[2] or home ~= ARGV[1] then return {0, home
 if not redis.call('SET', KEYS[3], ARGV[3], 'NX', 'PX', ARGV[4]) then return {0, redis.call('GET', KEYS[3])} end
 return {1, home}`,
 
-  /* KEYS takers; ARGV me. How many others take changes. */
+  /* KEYS takers, hold; ARGV me, token. How many others take changes; -1 where the hold is over. */
   takers: `${NOW}
+if redis.call('GET', KEYS[2]) ~= ARGV[2] then return -1 end
 local count = redis.call('ZCOUNT', KEYS[1], now, '+inf')
 local own = redis.call('ZSCORE', KEYS[1], ARGV[1])
 if own and tonumber(own) >= now then count = count - 1 end

@@ -195,7 +195,7 @@ export class SharedDocument {
     this.forgetRight();
     await this.#unchanging();
     await this.stream.notify();
-    await this.#fleet.untaken(document);
+    await this.#fleet.untaken(document, this.#token);
     await this.stream.catchUp();
   }
 

@@ -132,6 +132,7 @@ export class Stream {
       this.last = id;
       this.#first ||= id;
       this.#count++;
+      if (this.#isReady && fields[1] === this.#options.hub) continue; // it is known what it has
       for (let at = 0; at < fields.length; at += 2) {
         if (fields[at] === "ops") this.#takeOperations(id, fields[at + 1] ?? "");
         if (fields[at] === "notice") isNoticed = true;

@@ -67,6 +67,26 @@ suite("fleet failures", { skip: lacking, concurrency: 3 }, () => {
     }
   }
 
+  for (const step of ["take-maps", "take-operations", "take-record", "taken"]) {
+    test(`a hub that is killed at the step ${step} of its way into a generation that another one made`, async () => {
+      const redis = await RedisServer.started();
+      const hubs = { a: await startFleetHub(redis, "a") };
+      await found(hubs.a);
+      const a = await joinLines(hubs.a.lines, "d");
+      await assign(a, "first", 1); // so that it is home
+      hubs.b = await startStoppedHub(redis, "b", `${hubs.a.folder}-b`, step, "SIGKILL");
+      const writers = new Writers(hubs);
+      await writers.go();
+      await renewed([hubs.a]);
+      await hubs.b.child.ended;
+      await writers.go(5, ["a"]);
+      hubs.b = await startFleetHub(redis, "b", hubs.b.folder);
+      await writers.go();
+      await writers.stop();
+      equal(await checkFleet(Object.values(hubs), writers), 2);
+    });
+  }
+
   test("a hub that is stopped past its lease while another one renews", async () => {
     const redis = await RedisServer.started();
     const [a, b, c] = await fleetOf(redis, "a", "b", "c");
@@ -160,6 +180,29 @@ suite("fleet failures", { skip: lacking, concurrency: 3 }, () => {
     await writers.go();
     await writers.stop();
     equal(await checkFleet([a, b], writers), 3);
+  });
+
+  test("Redis is emptied while the hub that knows the next generation is cut off, within its lease", async () => {
+    const redis = await RedisServer.started();
+    const way = await Way.to(redis);
+    const [a, b] = [await startFleetHub(way, "a"), await startFleetHub(redis, "b")];
+    await found(b, a);
+    const writers = new Writers({ a, b });
+    await writers.go();
+    b.child.kill("SIGSTOP");
+    const generation = await renewed([a]);
+    await writers.go(5, ["a"]);
+    way.cut();
+    const away = performance.now() + LEASE_MS; // until then a may take changes
+    redis.ask("FLUSHALL");
+    b.child.kill("SIGCONT");
+    await writers.go(5, ["b"]);
+    equal(recordOf(b).generation, "1");
+    way.mend();
+    await generationIs(b, generation);
+    await writers.go();
+    await writers.stop();
+    equal(await checkFleet([a, b], writers, { away }), 2);
   });
 
   test("Redis is emptied while the only hub that knows the next generation is away", async () => {
