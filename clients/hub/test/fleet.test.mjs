@@ -2,6 +2,8 @@
    and the others follow, and a home that goes is followed by another one. */
 
 import { deepEqual, equal, match, rejects } from "node:assert/strict";
+import { existsSync } from "node:fs";
+import { join } from "node:path";
 import { test } from "node:test";
 import { memoryStore, Provider } from "../../js/provider.mjs";
 import { command, health } from "./data_hub.mjs";
@@ -25,6 +27,8 @@ async function renew(hubs, name = "d") {
     return undefined;
   });
 }
+
+const has = ({ folder }, name) => existsSync(join(folder, "documents", name));
 
 suite("fleet", { skip: lacking, concurrency: true }, () => {
   test("changes at each hub arrive at all, also in documents that are made at one", async () => {
@@ -161,6 +165,23 @@ suite("fleet", { skip: lacking, concurrency: true }, () => {
     deepEqual((await health(a)).fleet, { hub: "a", connected: true, founded: true });
     const renamed = await command(a.folder, "rename", "d", "e");
     match(renamed.stderr, /of several hubs/);
+  });
+
+  test("a document is removed for good once no hub runs, at each folder and in Redis", async () => {
+    const redis = await RedisServer.started();
+    const hubs = await fleetOf(redis, "a", "b");
+    const ada = await joinLines(hubs[0].lines, "d", "e");
+    for (const name of ["d", "e"]) await assign(ada, "x", 1, name);
+    for (const hub of hubs) await until(`${hub.name} has both`, () => ["d", "e"].every((it) => has(hub, it)));
+    for (const { child } of hubs) await kill(child, "SIGTERM");
+    for (const { folder } of hubs) equal((await command(folder, "delete", "d")).status, 0);
+    redis.ask("FLUSHALL");
+    const again = await Promise.all(hubs.map(({ name, folder }) => startFleetHub(redis, name, folder)));
+    await found(...again);
+    for (const { lines } of again) await until("e is there", async () => {
+      const client = await joinLines(lines, "e");
+      return (await client.keys("e", [0])).length === 1 && (await client.list()).join() === "e";
+    });
   });
 
   test("a document of a hub alone goes on in a fleet, in its generation", async () => {
