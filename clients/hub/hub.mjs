@@ -79,7 +79,11 @@ async function admitOf(file) {
 async function givenOf({ server, ...values }) {
   const given = ON_COMMAND_LINE.filter(({ word }) => values[word] !== undefined)
     .map(({ name, word, bounds }) => [name, bounds ? number(values[word]) : values[word]]);
-  const options = { ...(server !== undefined && { server }), ...Object.fromEntries(given) };
+  const { JCRDT_REDIS: redis } = process.env;
+  const isOfFleet = redis !== undefined && values.hub !== undefined;
+  const options = {
+    ...(server !== undefined && { server }), ...(isOfFleet && { redis }), ...Object.fromEntries(given),
+  };
   return values.admit === undefined ? options : { ...options, admit: await admitOf(values.admit) };
 }
 

@@ -49,6 +49,13 @@ export interface HubOptions {
   closeAfter?: number;
   /** With `data`: where there are so many documents, no further one is made (100,000). */
   documents?: number;
+  /** With `data`: a Redis, HOST:PORT or a URL, by which hubs of several machines share documents. */
+  redis?: string;
+  /** With `redis`: what this hub is called there. */
+  hub?: string;
+  /** With `redis`, the same for all hubs: seconds that Redis may not answer before no changes are
+   *  taken (10). */
+  lease?: number;
   /** HOST:PORT to take lines at over TCP. */
   lines?: string;
   /** HOST:PORT to serve the page and to take lines at over WebSocket. */
@@ -98,6 +105,9 @@ export interface Health {
   sessions: { got: number; wanted: number };
   /** With `data`: documents that there are, and those whose server runs. */
   documents?: { all: number; open: number };
+  /** With `redis`: what this hub is called, whether Redis can be reached, and whether the fleet is
+   *  founded there, so that documents are renewed. */
+  fleet?: { hub: string; connected: boolean; founded: boolean; trouble?: string };
   /** Why there are fewer sessions than wanted; with `data` which documents can't be opened. */
   trouble?: string;
   clients: Record<Way, number>;
@@ -135,6 +145,9 @@ export interface Desk {
   restore(entry: string, name?: string): Promise<void>;
   /** Puts what a document shows into its next generation, and resolves that. */
   renew(name: string): Promise<string>;
+  /** With `redis`: founds the fleet of these hubs, so that documents are renewed, and founds it again
+   *  where Redis has lost it. Each of them has connected since then. */
+  found(hubs: string[]): Promise<void>;
   /** The document's operations as lines, in the order of its log. NAME/GENERATION is one of before. */
   export(name: string): AsyncGenerator<string, void>;
 }

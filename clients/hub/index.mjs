@@ -2,11 +2,12 @@
 
 import { existsSync } from "node:fs";
 import { fileURLToPath } from "node:url";
-import { CLOCK, addressParts } from "./lib/client_package.mjs";
+import { CLOCK, addressParts, isName } from "./lib/client_package.mjs";
 import { openControl } from "./lib/control.mjs";
 import { Desk } from "./lib/desk.mjs";
 import { Figures } from "./lib/figures.mjs";
 import { StoredFronts } from "./lib/file.mjs";
+import { Fleet } from "./lib/fleet.mjs";
 import { Folder } from "./lib/folder.mjs";
 import { openLines } from "./lib/lines.mjs";
 import { notes } from "./lib/notes.mjs";
@@ -14,6 +15,7 @@ import { OneServer } from "./lib/one_server.mjs";
 import { numbersOf } from "./lib/options.mjs";
 import { Pool } from "./lib/pool.mjs";
 import { Presence } from "./lib/presence.mjs";
+import { redisAddress } from "./lib/redis.mjs";
 import { dropIdle } from "./lib/serve.mjs";
 import { Shelf } from "./lib/shelf.mjs";
 import { Storage } from "./lib/storage.mjs";
@@ -35,17 +37,26 @@ const RELEASED = fileURLToPath(new URL("../../release/jcrdt", import.meta.url));
  *  @param {HubOptions} options */
 async function placesOf(options) {
   const { sessions, replyLimit, linesPerSession, open, closeAfter, ...ofData } = numbersOf(options);
-  const { documents, renewAt, keepGenerations } = ofData;
+  const { documents, renewAt, keepGenerations, lease } = ofData;
   const { server, data, note = notes(), clock = CLOCK } = options;
   const ofSession = { sessions, replyBytes: replyLimit * MEGABYTE, linesPerSession, clock };
   if (data === undefined) {
     return new OneServer(new Pool({ ...ofSession, server: () => server, note, connected: note }));
   }
   const program = options.program ?? (existsSync(RELEASED) ? RELEASED : "jcrdt");
-  return new Shelf(await Folder.open(data), {
-    program, open, closeAfter: closeAfter * SECOND, documents, renewAt, keepGenerations,
+  const folder = await Folder.open(data);
+  const fleet = fleetOf(options, folder, lease * SECOND);
+  return new Shelf(folder, {
+    ...(fleet && { fleet }), program, open, closeAfter: closeAfter * SECOND, documents, renewAt, keepGenerations,
     sessions: ofSession, note, ...(options.atStep && { atStep: options.atStep }),
   });
+}
+
+/** What hubs of several machines share, where this one is to be one of them.
+ *  @param {HubOptions} options @param {Folder} folder @param {number} lease */
+function fleetOf({ redis, hub: name, note = notes(), clock = CLOCK }, folder, lease) {
+  if (redis === undefined || name === undefined) return undefined;
+  return new Fleet({ address: redisAddress(redis), hub: name, lease, folder, clock, note });
 }
 
 /** What the parts of a hub share.
@@ -83,6 +94,8 @@ function stateOf(options, places) {
 function withShelf(state, shelf) {
   state.shelf = shelf;
   state.desk = new Desk(shelf, () => state.figures.states(state));
+  shelf.isWatched = state.watches.isWatched;
+  shelf.came = (document) => void state.watches.look(document);
   shelf.renewed = (document, generation) => state.watches.renewed(document, generation);
   shelf.leaves = (document) => {
     for (const guest of [...state.guests.lines, ...state.guests.web]) {
@@ -107,7 +120,7 @@ export async function hub(options) {
 
 /** @param {HubOptions} options
  *  @throws {TypeError} for what is no address, and for options that don't fit together */
-function check({ server, data, lines, web, file, durable, program }) {
+function check({ server, data, lines, web, file, durable, program, redis, hub: name }) {
   if ((server === undefined) === (data === undefined)) {
     throw new TypeError("either a server or data is given");
   }
@@ -119,6 +132,10 @@ function check({ server, data, lines, web, file, durable, program }) {
     throw new TypeError("file and durable are for a hub with a server");
   }
   if (data === undefined && program !== undefined) throw new TypeError("program is for data");
+  if (redis !== undefined) redisAddress(redis); // throws where it is none
+  if (data === undefined && redis !== undefined) throw new TypeError("redis is for data");
+  if ((redis === undefined) !== (name === undefined)) throw new TypeError("redis and hub go together");
+  if (name !== undefined && !isName(name)) throw new TypeError("hub is 1 to 32 of a-z, 0-9 and -");
 }
 
 /** @param {State} state @param {HubOptions} options

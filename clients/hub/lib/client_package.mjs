@@ -40,3 +40,6 @@ export const { locked } = lock;
 const protocol = await import(placeOf("protocol"));
 export const { REQUESTS, isChange, refusalLine } = protocol;
 
+/** It isn't exported: pages and programs don't need it.
+ *  @type {typeof import("../../js/generations.mjs")} */
+export const generations = await import(new URL("generations.mjs", FOLDER).href);

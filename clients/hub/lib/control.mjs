@@ -44,6 +44,10 @@ export const COMMANDS = {
     words: "NAME", help: "put what a document shows into its next generation, which is said",
     run: (desk, name = "") => desk.renew(name).then((generation) => [generation]),
   },
+  found: {
+    words: "HUB,..", help: "with --redis: documents of these hubs, all that there are, are renewed",
+    run: (desk, hubs = "") => desk.found(hubs.split(",")).then(() => []),
+  },
   export: {
     words: "NAME", help: "a document's operations as lines, as `clients/python/run load` takes them",
     run: (desk, name = "") => desk.export(name),

@@ -35,6 +35,7 @@ export class Desk {
   async create(name) {
     const isMade = await this.#shelf.folder.create(name);
     if (!isMade) throw new NoDocument(`there is a document ${name}`);
+    this.#shelf.announce(name);
   }
 
   /** @param {string} name @param {string} other */
@@ -46,10 +47,16 @@ export class Desk {
   deleted = () => this.#shelf.folder.bin();
 
   /** @param {string} entry @param {string} [name] */
-  restore = (entry, name = nameOf(entry)) => this.#shelf.folder.restore(entry, name);
+  async restore(entry, name = nameOf(entry)) {
+    await this.#shelf.folder.restore(entry, name);
+    this.#shelf.announce(name);
+  }
 
   /** @param {string} name */
   renew = (name) => this.#shelf.renew(name);
+
+  /** @param {string[]} hubs */
+  found = (hubs) => this.#shelf.found(hubs);
 
   /** The operations as lines, in the order of the log.
    *  @param {string} name

@@ -1,13 +1,14 @@
 /* The folder of a hub that runs its servers: a folder for each document, with a record and the files
    of its servers. What a step leaves half done is no document: each comes and goes by a rename.
 
-     DIR/hub.json                       says that it is such a folder
+     DIR/hub.json                       says that it is such a folder, and which fleet it is of
      DIR/lock                           which hub has it
      DIR/documents/NAME/record.json     which file takes changes, and the document's name in it
      DIR/documents/NAME/size.json       how large it was when its server ended last
      DIR/documents/NAME/1.db, 1.db-wal  the file of its server in its first generation
      DIR/documents/NAME/2-XY.db, ..     that of its second one
      DIR/documents/NAME/2-XY.map        which element of the first became which one there
+     DIR/documents/NAME/1.lost          changes of the first that can't be made in a later one
      DIR/bin/NAME.TIME                  a document that was deleted, and when, in ms */
 
 import { randomUUID } from "node:crypto";
@@ -104,6 +105,16 @@ export class Folder {
    *  @param {string} name @param {string} generation */
   fileOf = (name, generation) => join(this.folderOf(name), `${generation}.db`);
 
+  /** The id of the fleet that the hub is of; `undefined` of one that is of none yet.
+   *  @returns {Promise<string | undefined>} */
+  fleet = async () => (await json(join(this.#path, MARK)))?.fleet;
+
+  /** @param {string} id */
+  async joinFleet(id) {
+    this.#lock.check();
+    await written(join(this.#path, MARK), { format: FORMAT, fleet: id });
+  }
+
   /** @param {string} name @returns {Promise<Record>} */
   async record(name) {
     const path = join(this.folderOf(name), RECORD);
@@ -169,10 +180,34 @@ export class Folder {
   async writeMap(name, generation, ends, lists) {
     const lines = lists.flatMap((list) => list.map((pair, at) => (at === 0 ? [...pair, 0] : pair)));
     const text = [ends, ...lines].map((it) => `${JSON.stringify(it)}\n`).join("");
+    await this.writeMapText(name, generation, text);
+    return text;
+  }
+
+  /** Writes the text of a map.
+   *  @param {string} name @param {string} generation @param {string} text */
+  async writeMapText(name, generation, text) {
     const path = this.#mapOf(name, generation);
     const file = await open(path, "wx", 0o600);
     try {
       await file.writeFile(text);
+      await file.sync();
+    } finally {
+      await file.close();
+    }
+    await synced(this.folderOf(name));
+  }
+
+  /** The text of a map.
+   *  @param {string} name @param {string} generation */
+  mapText = (name, generation) => readFile(this.#mapOf(name, generation), "utf8");
+
+  /** Writes what of a generation can't be made in a later one, behind what was written before.
+   *  @param {string} name @param {string} generation @param {string[]} lines */
+  async writeLost(name, generation, lines) {
+    const file = await open(join(this.folderOf(name), `${generation}.lost`), "a", 0o600);
+    try {
+      await file.writeFile(lines.map((it) => `${it}\n`).join(""));
       await file.sync();
     } finally {
       await file.close();

@@ -18,6 +18,8 @@ import { Renewal, withoutIds } from "./renewal.mjs";
  *  @property {OpenDocument} open
  *  @property {(generation: string) => OpenDocument} next
  *  @property {() => Promise<void>} hold Lets nobody else use the document from then on.
+ *  @property {(generation: string, map: string, operations: string[]) => Promise<void>} decide Decides
+ *    that this generation follows, where several hubs might make one. Throws where another one does.
  *  @property {(step: string) => void} atStep for tests: is called before each step */
 
 const AT_ONCE = 2000; // operations that are delivered before their replies are awaited
@@ -50,7 +52,8 @@ export class TooLarge extends Error {
  *  as it is.
  *  @param {Making} making
  *  @returns {Promise<{ open: OpenDocument, record: Record }>} */
-export async function nextGeneration({ folder, document, record, open, next, hold, atStep }) {
+export async function nextGeneration(making) {
+  const { folder, document, record, open, next, hold, decide, atStep } = making;
   const ask = askingOf(open, document);
   const generation = freshName(`${numberOf(record.generation) + 1}`);
   atStep("file");
@@ -66,7 +69,9 @@ export async function nextGeneration({ folder, document, record, open, next, hol
     atStep("deliver");
     await deliver(begun, document, renewal, shown);
     atStep("map");
-    await folder.writeMap(document, generation, { end, start: renewal.front }, renewal.lists);
+    const ends = { end, start: renewal.front };
+    const map = await folder.writeMap(document, generation, ends, renewal.lists);
+    await decide(generation, map, renewal.operations.map((it) => print(it)));
     const size = { operations: open.operations, replicas: end.length };
     const past = { generation: record.generation, until: new Date().toISOString(), ...size };
     const renewed = { ...record, generation, began: count, history: [...record.history, past] };

@@ -35,6 +35,21 @@ release/jcrdt, else jcrdt of PATH`,
     value: "N", bounds: from(1, 1_000_000, 100_000),
     help: "with --data: make no further document where there are N",
   },
+  redis: {
+    value: "REDIS",
+    help: `with --data: share the documents with other hubs by the Redis at HOST:PORT,
+or redis://[[USER]:PASSWORD@]HOST:PORT[/N], rediss:// for TLS. Others of
+this machine see it, but not the variable JCRDT_REDIS in its place`,
+  },
+  hub: {
+    value: "NAME",
+    help: "with --redis: what this hub is called there, 1 to 32 of a-z, 0-9 and -",
+  },
+  lease: {
+    value: "S", bounds: from(1, 600, 10),
+    help: `with --redis, the same for all hubs: take no changes where Redis hasn't
+answered for so long; others wait for that before they renew`,
+  },
   lines: { value: "ADDRESS", help: "take lines over TCP, as the server does" },
   web: {
     value: "ADDRESS",

@@ -2,13 +2,16 @@
    the document is used, and ends when nobody has used it for a while, or when others need its room. */
 
 import { isName, MOST, pauseBy, refusalLine, REQUESTS } from "./client_package.mjs";
+import { digestOf, numberOf, ops } from "./fleet.mjs";
 import { NoDocument } from "./folder.mjs";
 import {
   contentOf, isFirstMaker, isMaker, makerOf, MOST_CONTENT, nextGeneration, TooLarge,
 } from "./generation.mjs";
 import { messageOf } from "./notes.mjs";
 import { OpenDocument } from "./open_document.mjs";
-import { splitName } from "./requests.mjs";
+import { asks, splitName } from "./requests.mjs";
+import { SharedDocument } from "./shared_document.mjs";
+import { takeOver } from "./takeover.mjs";
 
 /** @typedef {import("./pool.mjs").Pool} Pool */
 /** @typedef {import("./rights.mjs").Rights} Rights */
@@ -18,6 +21,7 @@ import { splitName } from "./requests.mjs";
  *    renewAt: number, keepGenerations: number,
  *    sessions: Omit<import("./open_document.mjs").Sessions, "note">,
  *    atStep?: (step: string) => void,
+ *    fleet?: import("./fleet.mjs").Fleet,
  *    note: import("./notes.mjs").Note }} ShelfOptions `closeAfter` is in milliseconds */
 
 const TICK_MS = 1000;
@@ -34,7 +38,11 @@ const WARN_CONTENT = Math.floor(MOST_CONTENT * 2 / 3);
 const LOOK_EACH = 5000; // operations until it is looked again how much a document shows
 const ADVICE = "Divide it, or keep its texts as lines in place of characters";
 
+const RIGHT_MS = 5000; // so long a change waits until it may be taken
+const FOLLOW_MS = 1000; // until another generation is tried again that couldn't be taken over
+
 const RENEWED = refusalLine("renewed");
+const UNKNOWN = refusalLine("server-lost");
 
 /** Whether a front is of the generation that a replica began, or of the first one, which none began.
  *  @param {any} front @param {string | undefined} maker */
@@ -53,6 +61,12 @@ export class Shelf {
   /** Is called before a document goes, or gets another name.
    *  @type {(document: string) => void} */
   leaves = () => {};
+  /** Says whether clients watch a document.
+   *  @type {(document: string) => boolean} */
+  isWatched = () => false;
+  /** Is called when operations of other hubs are there.
+   *  @type {(document: string) => void} */
+  came = () => {};
   /** Is called when a document goes on in another generation.
    *  @type {(document: string, generation: string) => void} */
   renewed = () => {};
@@ -78,6 +92,10 @@ export class Shelf {
   #notBefore = new Map();
   /** @type {Map<string, number>} from how many operations on it is looked how much a document shows */
   #lookAt = new Map();
+  /** @type {Map<string, SharedDocument>} as other hubs have them, by the documents' names */
+  #shared = new Map();
+  /** @type {Map<string, Promise<string | undefined>>} documents whose later generation is taken over */
+  #taking = new Map();
   #isStopped = false;
   #stopTicks;
 
@@ -85,6 +103,9 @@ export class Shelf {
   constructor(folder, options) {
     this.folder = folder;
     this.#options = options;
+    const { fleet } = options;
+    if (fleet) fleet.named = (name) => this.create(name);
+    if (fleet) fleet.open = (name) => this.use(name, async () => "");
     this.#clock = options.sessions.clock;
     this.#stopTicks = this.#clock.every(TICK_MS, () => this.#closeIdle());
   }
@@ -100,6 +121,7 @@ export class Shelf {
 
   get health() {
     const { pools, trouble } = this;
+    const { fleet } = this.#options;
     const isWell = this.#failed.size === 0 || pools.length > 0;
     const count = (/** @type {(pool: Pool) => number} */ of) =>
       pools.reduce((sum, pool) => sum + of(pool), 0);
@@ -110,6 +132,7 @@ export class Shelf {
         got: count(({ links }) => links.length), wanted: count(({ sessions }) => sessions.length),
       },
       documents: { all: this.folder.names.size, open: this.#documents.size },
+      ...(fleet && { fleet: fleet.health }),
       ...(trouble && { trouble }),
     };
   }
@@ -128,15 +151,21 @@ export class Shelf {
    *  @param {string} document @param {(pool: Pool) => Promise<string>} work
    *  @param {any[]} [request] */
   async use(document, work, request) {
-    const found = await this.#opened(document);
-    if (!found?.pool) return undefined;
-    try {
-      if (request && !this.#isOfNow(document, request)) return RENEWED;
-      return await work(found.pool);
-    } finally {
-      found.uses--;
-      found.usedAt = this.#clock.now();
-      if (this.#waiting.length > 0) this.#makeRoom();
+    for (const end = this.#clock.now() + RIGHT_MS; ; ) {
+      const found = await this.#opened(document);
+      if (!found?.pool) return undefined;
+      const { pool } = found;
+      const shared = request && asks.changes(request[0]) ? this.#shared.get(document) : undefined;
+      try {
+        if (request && !this.#isOfNow(document, request)) return RENEWED;
+        if (!shared) return await work(pool);
+        if (shared.mayChange) return await shared.change(() => work(pool), UNKNOWN);
+      } finally {
+        found.uses--;
+        found.usedAt = this.#clock.now();
+        if (this.#waiting.length > 0) this.#makeRoom();
+      }
+      if (!(await shared.allowed(end - this.#clock.now()))) return undefined;
     }
   }
 
@@ -166,6 +195,8 @@ export class Shelf {
     for (const resume of this.#waiting.splice(0)) resume(false);
     await Promise.allSettled(this.#making.values());
     await Promise.all([...this.#documents.values()].map((it) => this.#end(it)));
+    await Promise.allSettled(this.#renewing.values());
+    this.#options.fleet?.stop();
     this.folder.close();
   }
 
@@ -184,6 +215,14 @@ export class Shelf {
       return "no-such-document";
     }
     return this.create(document).then((isMade) => (isMade === undefined ? "server-away" : undefined));
+  }
+
+  /** Founds the fleet: see `Fleet`.
+   *  @param {string[]} hubs */
+  async found(hubs) {
+    const { fleet } = this.#options;
+    if (!fleet) throw new Error("this hub has no --redis");
+    await fleet.found(hubs);
   }
 
   /** @param {string} document also one of before: NAME/GENERATION */
@@ -206,11 +245,19 @@ export class Shelf {
     try {
       if (this.folder.names.has(document)) return false;
       if (this.folder.names.size >= documents) throw new Error(`there are ${documents} documents`);
-      return await this.folder.create(document);
+      const isMade = await this.folder.create(document);
+      this.announce(document);
+      return isMade;
     } catch (error) {
       note(`${document} can't be made: ${messageOf(error)}`);
       return undefined;
     }
+  }
+
+  /** Lets other hubs know of a document: now, or when Redis can be reached again.
+   *  @param {string} document */
+  announce(document) {
+    this.#options.fleet?.announce(document).catch(() => {});
   }
 
   /** The names of documents behind another one, in the order of their bytes.
@@ -247,6 +294,7 @@ export class Shelf {
    *  @param {string} document @param {() => Promise<T>} work
    *  @returns {Promise<T>} */
   async #without(document, work) {
+    if (this.#options.fleet) throw new NoDocument(`${document} is of several hubs: it keeps its name, and isn't deleted`);
     if (!this.folder.names.has(document)) throw new NoDocument(`there is no document ${document}`);
     if (this.#shut.has(document)) throw new NoDocument(`${document} is being changed`);
     this.#shut.add(document);
@@ -293,6 +341,7 @@ export class Shelf {
     const failedAt = this.#failed.get(document)?.at ?? -Infinity;
     if (this.#clock.now() - failedAt < FAILED_MS) return undefined;
     const [name, past] = splitName(document);
+    if (past === undefined && !this.#documents.has(document)) await this.#takenOver(document);
     const record = await this.folder.record(name).catch((error) => this.#fail(document, error));
     if (!record) return undefined;
     if (past === undefined) await this.folder.tidy(name, record).catch(() => {});
@@ -303,6 +352,109 @@ export class Shelf {
     this.#documents.set(document, begun);
     begun.opening = this.#isOpening(document, begun);
     return begun;
+  }
+
+  // ---- What hubs of several machines share
+
+  /** Shares a document whose server listens, where the hub is of a fleet.
+   *  @param {string} document @param {OpenDocument} open @param {Record} record */
+  async #share(document, open, record) {
+    const { fleet, note } = this.#options;
+    if (!fleet) return;
+    const { generation } = record;
+    const isFirst = numberOf(generation) === 1;
+    const digest = isFirst ? "" : digestOf(await this.folder.mapText(document, generation));
+    const shared = new SharedDocument(fleet, {
+      document, key: ops(document, generation), decision: { generation, digest }, note,
+      ask: (line) => open.ask(document, line),
+      came: (operations) => {
+        open.noteSize(open.operations + operations.length, operations.map((it) => it[1][1]));
+        this.came(document);
+      },
+      followed: () => void this.#follow(document).catch((error) => note(messageOf(error))),
+      putBack: () => fleet.putBack(document, record),
+    });
+    this.#shared.set(document, shared);
+    await shared.begin();
+  }
+
+  /** Others don't see changes of this hub any more, but for those before.
+   *  @param {string} document @param {boolean} [isHomeStill] */
+  async #unshare(document, isHomeStill) {
+    const shared = this.#shared.get(document);
+    await shared?.end(isHomeStill);
+    const isAsleep = shared && !isHomeStill && this.isWatched(document);
+    if (isAsleep) this.#options.fleet?.sleep(document, shared.stream);
+    if (this.#shared.get(document) === shared) this.#shared.delete(document);
+  }
+
+  /** Goes on in a later generation of a document, which another hub has made. Who uses it waits.
+   *  @param {string} document */
+  async #follow(document) {
+    const isBusy = () => this.#renewing.has(document) || this.#making.has(document) || this.#isStopped;
+    const { fleet } = this.#options;
+    if (!fleet || isBusy()) return;
+    const { generation } = await this.folder.record(document);
+    const later = await fleet.later(document, generation);
+    for (const it of later) await fleet.mapText(document, it); // throws where it can't be followed yet
+    if (later.length === 0 || isBusy()) return;
+    await this.#followNow(document);
+  }
+
+  /** @param {string} document */
+  async #followNow(document) {
+    let goOn = () => {};
+    this.#renewing.set(document, new Promise((resolve) => (goOn = () => resolve())));
+    try {
+      const open = this.#documents.get(document);
+      for (const end = this.#clock.now() + HOLD_MS; open && open.uses > 0; ) {
+        if (this.#clock.now() > end) break; // a request that takes so long is answered by `server-lost`
+        await pauseBy(this.#clock, 1);
+      }
+      if (open) await this.#end(open);
+      await this.#unshare(document);
+      const generation = await this.#takenOver(document);
+      if (generation !== undefined) this.#clock.after(0, () => this.#sayRenewed(document, generation));
+    } finally {
+      this.#renewing.delete(document);
+      goOn();
+    }
+  }
+
+  /** Opens a document again that goes on in another generation, and lets its clients know.
+   *  @param {string} document @param {string} generation */
+  async #sayRenewed(document, generation) {
+    await this.use(document, async () => "").catch(() => {}); // else who asks next opens it
+    this.renewed(document, generation);
+  }
+
+  /** Takes over the last generation of a document that other hubs have, where it is a later one. Returns
+   *  it. Where that can't be done the document goes on as it is, and takes no changes.
+   *  @param {string} document */
+  #takenOver(document) {
+    const taking = this.#taking.get(document)
+      ?? this.#takeOver(document).finally(() => this.#taking.delete(document));
+    this.#taking.set(document, taking);
+    return taking;
+  }
+
+  /** @param {string} document */
+  async #takeOver(document) {
+    const { fleet, note, atStep = () => {} } = this.#options;
+    if (!fleet?.redis) return undefined;
+    const record = await this.folder.record(document);
+    try {
+      const later = await fleet.later(document, record.generation);
+      if (later.length === 0) return undefined;
+      const openOf = (/** @type {string} */ generation) => this.#openOf(document, document, record, generation);
+      await this.folder.tidy(document, record);
+      const taken = await takeOver({ folder: this.folder, fleet, document, record, later, openOf, atStep, note });
+      return taken.generation;
+    } catch (error) {
+      note(`${document} can't go on in its next generation: ${messageOf(error)}`);
+      await pauseBy(this.#clock, FOLLOW_MS);
+      return undefined;
+    }
   }
 
   /** @param {string} document @param {string} name @param {Record} record
@@ -323,6 +475,8 @@ export class Shelf {
     try {
       await begun.begin();
       this.started++;
+      const record = this.#records.get(document);
+      if (record) await this.#share(document, begun, record);
       this.#measure(document, begun).catch((error) => this.#options.note(messageOf(error)));
       if (this.#failed.delete(document)) this.#since = new Date();
       return true;
@@ -362,6 +516,8 @@ export class Shelf {
   async #close(open) {
     if (open.isClosing) return open.closed;
     const [document = ""] = [...this.#documents].find(([, it]) => it === open) ?? [];
+    open.isClosing = true;
+    await this.#unshare(document);
     const size = await open.close();
     if (splitName(document)[1] === undefined) await this.folder.noteSize(document, size);
     this.#forget(document, open);
@@ -372,7 +528,12 @@ export class Shelf {
 
   #closeIdle() {
     const since = this.#clock.now() - this.#options.closeAfter;
-    for (const it of this.#unused()) if (it.usedAt < since) this.#close(it);
+    const names = new Map([...this.#documents].map(([name, open]) => [open, name]));
+    for (const it of this.#unused()) {
+      // Where hubs share it, another one's changes are to be pushed.
+      const isNeeded = this.#options.fleet && this.isWatched(names.get(it) ?? "");
+      if (it.usedAt < since && !isNeeded) this.#close(it);
+    }
   }
 
   /** Those that may be closed, the one that wasn't used for longest first. */
@@ -402,6 +563,7 @@ export class Shelf {
     const [, count = "0", replica = ""] = /^\["applied",(\d+),\d+,\[\d+,"([^"]+)"\]\]$/.exec(reply) ?? [];
     if (!open) return;
     open.noteSize(open.operations + Number(count), [replica]);
+    this.#shared.get(document)?.stream.wake();
     this.#renewIfDue(document, open);
     this.#warnIfLarge(document, open);
   }
@@ -409,7 +571,7 @@ export class Shelf {
   /** @param {string} document @param {OpenDocument} open */
   #renewIfDue(document, { operations, replicas }) {
     const record = this.#records.get(document);
-    if (!record || this.#making.has(document)) return;
+    if (!record || this.#making.has(document) || !this.#mayRenew(document)) return;
     const least = Math.max(this.#options.renewAt, GROWTH * record.began);
     const isDue = operations >= least || replicas.size >= RENEW_REPLICAS;
     if (!isDue || this.#clock.now() < (this.#notBefore.get(document) ?? 0)) return;
@@ -420,6 +582,13 @@ export class Shelf {
       const advice = isTooLarge ? `. ${ADVICE}` : "";
       this.#options.note(`${document} can't be renewed: ${messageOf(error)}${advice}`);
     });
+  }
+
+  /** Whether no other hub is to renew it.
+   *  @param {string} document */
+  #mayRenew(document) {
+    const { fleet } = this.#options;
+    return !fleet || (fleet.isFounded && this.#shared.get(document)?.home === fleet.me);
   }
 
   /** Looks at times whether what a document shows grows too large to be renewed.
@@ -466,7 +635,9 @@ export class Shelf {
   /** @param {string} document @param {OpenDocument} open @param {Record} record */
   async #renewed(document, open, record) {
     let goOn = () => {};
+    const shared = this.#shared.get(document);
     const hold = async () => {
+      await shared?.gather();
       this.#renewing.set(document, new Promise((resolve) => (goOn = () => resolve())));
       for (const end = this.#clock.now() + HOLD_MS; open.uses > 1; await pauseBy(this.#clock, 1)) {
         if (this.#clock.now() > end) throw new Error("it is in use");
@@ -476,6 +647,7 @@ export class Shelf {
     try {
       const made = await nextGeneration({
         folder: this.folder, document, record, open, hold, atStep,
+        decide: (...made) => this.#decide(document, shared, ...made),
         next: (generation) => this.#openOf(document, document, record, generation),
       });
       return await this.#goOnIn(document, open, made);
@@ -485,7 +657,24 @@ export class Shelf {
     } finally {
       this.#renewing.delete(document);
       goOn();
+      await shared?.release().catch(() => {}); // it ends by itself
     }
+  }
+
+  /** Decides that a generation follows, where hubs share the document. Throws where another one does.
+   *  @param {string} document @param {SharedDocument | undefined} shared
+   *  @param {string} generation @param {string} map @param {string[]} operations */
+  async #decide(document, shared, generation, map, operations) {
+    const { fleet } = this.#options;
+    if (!fleet || !shared) return;
+    await fleet.publish(document, generation, map, operations);
+    const decided = await shared.decide({ generation, digest: digestOf(map) });
+    if (decided.generation === generation) {
+      await fleet.expire(document, shared.generation).catch(() => {});
+      return;
+    }
+    await fleet.withdraw(document, generation).catch(() => {});
+    throw new Error(`another hub was first, with generation ${decided.generation}`);
   }
 
   /** Lets a document's next generation take its changes.
@@ -498,6 +687,9 @@ export class Shelf {
     this.#documents.set(document, made.open);
     this.#records.set(document, made.record);
     this.#lookAt.delete(document);
+    await this.#shared.get(document)?.release().catch(() => {}); // it ends by itself
+    await this.#unshare(document, true);
+    await this.#share(document, made.open, made.record);
     open.close().then(() => open.noteClosed());
     await this.#dropOld(document, made.record).catch(() => {});
     return made.record;

@@ -35,6 +35,10 @@ export class Watches {
     });
   }
 
+  /** Whether clients watch a document.
+   *  @param {string} document */
+  isWatched = (document) => this.#watched.has(document);
+
   /** @param {Guest} guest */
   has = (guest) => [...this.#watched.values()].some(({ guests }) => guests.has(guest));
 

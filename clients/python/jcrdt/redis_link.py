@@ -1,8 +1,9 @@
 """The part of a relay that stands on Redis: the operations of each document in a Redis Stream.
 
-An entry of the stream jcrdt:DOC has one field, `op`, the text of an operation. A relay that adds one adds
-before it what it depends on. An operation may be there more than once. Each connection reads the stream
-from its beginning. What isn't an operation is named and skipped. The stream is never cut by a relay; what
+An entry of the stream jcrdt:DOC has a field `ops`, an array of operations as JSON text, and `by`, which connection
+of a relay added it. Or it has `op`, the text of one operation, as relays before 1.2.0 added them. A relay that adds
+some adds before them what they depend on. An operation may be there more than once. Each connection reads the
+stream from its beginning. What isn't an operation is named and skipped. The stream is never cut by a relay; what
 was cut or emptied by others is noticed and added again.
 
 It needs redis-py 4.3 or later: `pip install './clients/python[redis]'` in the clone, or python3-redis of Debian.
@@ -12,20 +13,25 @@ import asyncio
 import contextlib
 import importlib
 import random
+import secrets
 import time
 import urllib.parse
 from typing import TYPE_CHECKING, Any, Dict, List, Optional, Set, Tuple
 
 from .link import LIMITS
-from .operation_log import Early, Log, Source, operation_in
-from .wire import Misbehaved, OPERATION_LIMIT, Operation, Refused, host_and_port
+from .operation_log import OPERATION_BYTES, Early, Log, Source, operation_in
+from .wire import Misbehaved, OPERATION_LIMIT, Operation, Refused, checked_operation, decoded, encoded, host_and_port
 from . import relay as relays
 
 if TYPE_CHECKING:
     from .relay import Relay
 
-# How many entries are read or added at once, and how many bytes are added at once.
-PAGE, CHUNK = 1000, 1 << 20
+# What an entry's text has beside its operations, at most: brackets and commas.
+BATCH_ROOM = 1002
+# How many entries are read at once.
+PAGE = 32
+# How many operations an entry has at most, and how many bytes, unless it has one: so none of many is too long for a line.
+BATCH, BATCH_BYTES = 1000, OPERATION_BYTES - BATCH_ROOM
 # How many milliseconds a reading waits for more, and about how often a cut is looked for, in seconds.
 WAIT, LOOK_EVERY = 500, 5.0
 # How many bad entries are named.
@@ -91,6 +97,8 @@ class Stream(relays.Place):
         """Nothing of the stream was read yet. `there` has the places in the log of what is in it."""
         self._last, self._first, self._count = b"0-0", b"", 0
         self._there: Set[int] = set()
+        # What is added from now on needn't be read.
+        self._by = secrets.token_hex(8).encode()
         self._early = Early(self.log, self.source)
         self._ready, self._from = False, 0
 
@@ -129,23 +137,41 @@ class Stream(relays.Place):
             self._count += 1
             self._first = self._first or entry_id
             self._last = entry_id
-            with contextlib.suppress(Misbehaved):
-                self._there.update(self._taken(entry_id, fields))
-        self._there.update(self._early.again())
+            if fields.get(b"by") == self._by:
+                continue
+            try:
+                self._there.update(self._early.take(self._operations(entry_id, fields)))
+            except Misbehaved as error:
+                self.member.skipped(self.key, entry_id, str(error))
+        with contextlib.suppress(Misbehaved):
+            self._there.update(self._early.again())
 
-    def _taken(self, entry_id: bytes, fields: Dict[bytes, bytes]) -> List[int]:
-        """Where the operation of an entry is in the log, and those that waited for it."""
+    def _operations(self, entry_id: bytes, fields: Dict[bytes, bytes]) -> List[Operation]:
+        """The operations of an entry. What is none is named, and the others are taken."""
+        found: List[Operation] = []
+
+        def skip(error: Exception) -> None:
+            self.member.skipped(self.key, entry_id, "it has no field `ops`" if isinstance(error, KeyError) else str(error))
+
         try:
-            operation: Operation = operation_in(fields[b"op"])
+            if b"op" in fields:
+                return [operation_in(fields[b"op"])]
+            text = fields[b"ops"]
+            batch = decoded(text)
+            if not isinstance(batch, list):
+                raise ValueError("it is no array of operations")
         except (KeyError, ValueError, Refused) as error:
-            why = "it has no field `op`" if isinstance(error, KeyError) else str(error)
-            self.member.skipped(self.key, entry_id, why)
-            return []
-        try:
-            return self._early.take([operation])
-        except Misbehaved as error:
-            self.member.skipped(self.key, entry_id, str(error))
-            return []
+            skip(error)
+            return found
+        for it in batch:
+            try:
+                operation = checked_operation(it)
+                if len(text) > OPERATION_BYTES and len(encoded(operation)) > OPERATION_BYTES:
+                    raise ValueError("it is longer than a line")
+                found.append(operation)
+            except (ValueError, Refused) as error:
+                skip(error)
+        return found
 
     async def _look_for_a_cut(self) -> None:
         """Compares how many entries the stream has with how many were read. One look sees one moment."""
@@ -180,29 +206,30 @@ class Stream(relays.Place):
             self.troubles.end(f"{self.key}: cut")
 
     async def push(self) -> int:
-        """Adds what the stream lacks, a page whole or not at all. Returns how many entries that were."""
+        """Adds what the stream lacks, many operations with an entry. Returns how many that were."""
         added = 0
         async with self._pushing:
             while self._ready and self._from < len(self.log.operations):
-                page = self._next_page()
+                batch = self._next_batch()
                 there = self._there
-                async with self.client.pipeline(transaction=True) as adding:
-                    for at in page:
-                        adding.xadd(self.key, {"op": self.log.operations[at].text})
-                    await adding.execute()
-                there.update(page)
-                added += len(page)
+                if batch:
+                    texts = (self.log.operations[at].text for at in batch)
+                    await self.client.xadd(self.key, {"by": self._by, "ops": b"[" + b",".join(texts) + b"]"})
+                there.update(batch)
+                added += len(batch)
         return added
 
-    def _next_page(self) -> List[int]:
-        page: List[int] = []
+    def _next_batch(self) -> List[int]:
+        batch: List[int] = []
         size, operations = 0, self.log.operations
-        while self._from < len(operations) and len(page) < PAGE and size < CHUNK:
+        while self._from < len(operations) and len(batch) < BATCH:
             if self._from not in self._there:
-                page.append(self._from)
                 size += len(operations[self._from].text)
+                if batch and size > BATCH_BYTES:
+                    break
+                batch.append(self._from)
             self._from += 1
-        return page
+        return batch
 
 
 class Streams(relays.Member):

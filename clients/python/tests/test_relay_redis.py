@@ -1,5 +1,7 @@
 """Relays that meet in a real Redis: bad entries, streams that are cut, and how a Redis is named."""
 
+import importlib
+import json
 import os
 import re
 import shutil
@@ -65,6 +67,12 @@ class Redis:
     def length(self) -> int:
         return int(self.raw("XLEN", "jcrdt:d").split()[-1])
 
+    def operations(self) -> int:
+        """How many operations the entries have."""
+        client: Any = importlib.import_module("redis").Redis(unix_socket_path=self.path)
+        entries = client.xrange("jcrdt:d")
+        return sum(len(json.loads(fields[b"ops"])) for _, fields in entries)
+
     def kill(self) -> None:
         self.process.kill()
         self.process.wait()
@@ -108,6 +116,43 @@ def test_bad_entries_are_skipped(serve: Serve, relay: Callable[..., Relay], redi
         assert kept.errors().count("is skipped") == 10, kept.errors()
         assert kept.errors().count("more entries are skipped") == 1
         assert kept.end() == 0, kept.errors()
+
+
+def test_what_is_no_operation_of_a_batch_is_skipped(serve: Serve, relay: Callable[..., Relay],  # noqa: F811
+                                                    redis: Callable[..., Redis]) -> None:
+    """Beside it there are others, of which the second waits for the first. An array of something else, and none, is named."""
+    store = redis()
+    store.add('[["op",[2,"x"],[["x",1]],[[["m",0]],"two"],["assign",2]],"hello",["op",[9,"x"],[],[[],0],["delete"]],'
+              '["op",[1,"x"],[],[[["m",0]],"one"],["assign",1]]]', "ops")
+    for text in ('{"op":1}', "[5]", "[", ""):
+        store.add(text, "ops")
+    (alice, bob), relays = pair(serve, relay, store.address)
+    for site in (alice, bob):
+        comes(site, "one", last=1)
+        comes(site, "two", last=2)
+    for kept in relays:
+        wait_for(lambda: "all 2 agree" in kept.output())
+        assert kept.errors().count("is skipped") == 5, kept.errors()
+
+
+def test_many_at_once_are_few_entries(serve: Serve, relay: Callable[..., Relay],  # noqa: F811
+                                      redis: Callable[..., Redis]) -> None:
+    """What a server has already is added by many to an entry, each entry fits a line unless it is one operation, and a relay
+    reads what it added itself after a cut alone."""
+    store = redis()
+    alice, bob = (serve("d", name=name) for name in ("alice", "bob"))
+    asked(alice.address, *(["assign", "d", [0, f"k{number}"], number] for number in range(3000)),
+          *(["assign", "d", [0, f"long{number}"], "x" * 4000] for number in range(40)))
+    relays = [relay(site.address, "--redis", store.address) for site in (alice, bob)]
+    comes(bob, "long39", last="x" * 4000)
+    assert store.length() < 20
+    store.raw("DEL", "jcrdt:d")
+    wait_for(lambda: store.length() >= 5)
+    carol = serve("d", name="carol")
+    again = relay(carol.address, "--redis", store.address)
+    comes(carol, "k2999", last=2999)
+    for kept in (*relays, again):
+        wait_for(lambda: "all 2 agree" in kept.output())
 
 
 def test_a_made_up_counter_silences_nobody(serve: Serve, relay: Callable[..., Relay],  # noqa: F811
@@ -157,17 +202,18 @@ def test_what_was_cut_is_added_again(serve: Serve, relay: Callable[..., Relay], 
     """A site that joins after a cut gets everything, also if all relays were started again after it."""
     store = redis()
     (alice, bob), relays = pair(serve, relay, store.address)
-    write(alice, "k", 500)
-    comes(bob, "k", last=499)
-    assert store.length() == 500
+    for part in range(5):
+        write(alice, f"k{part}", 100)
+        comes(bob, f"k{part}", last=99)
+    assert store.operations() == 500 and store.length() >= 5
     if how == "killed":
         store.kill()
         store.start()
     elif how == "XDEL":
-        entry = store.raw("XRANGE", "jcrdt:d", "-", "+", "COUNT", "100").decode().split("op")[50].split()[-1].strip()
+        entry = store.raw("XRANGE", "jcrdt:d", "-", "+", "COUNT", "2").decode().split("\n")[0].strip()
         assert store.raw("XDEL", "jcrdt:d", entry).strip() == b"1", entry
     else:
-        store.raw(*{"FLUSHALL": ["FLUSHALL"], "DEL": ["DEL", "jcrdt:d"], "XTRIM": ["XTRIM", "jcrdt:d", "MAXLEN", "100"]}[how])
+        store.raw(*{"FLUSHALL": ["FLUSHALL"], "DEL": ["DEL", "jcrdt:d"], "XTRIM": ["XTRIM", "jcrdt:d", "MAXLEN", "1"]}[how])
     if how == "XTRIM":
         for kept in relays:
             kept.end()
@@ -182,8 +228,8 @@ def test_what_was_cut_is_added_again(serve: Serve, relay: Callable[..., Relay], 
     if how not in ("killed", "XTRIM"):
         assert any("entries are gone; " in it.errors() for it in relays)
     # What is left of the 500 is at most 499. Two relays that look at the same moment both add all that misses: once each.
-    left = {"XDEL": 499, "XTRIM": 100}.get(how, 0)
-    assert store.length() <= left + 2 * 503
+    left = {"XDEL": 499, "XTRIM": 499}.get(how, 0)
+    assert store.operations() <= left + 2 * 503
     assert all(it.end() == 0 for it in (*relays, joined))
 
 
