@@ -17,6 +17,7 @@ from typing import Any, Dict, Iterable, List, Optional, Sequence, Tuple
 
 from . import wire
 from .again import Places
+from .copies import Clock, Own, is_change
 from .protocol import NUMBERS
 from .remaking import ROUNDS, How, Remade, Remaking
 from .session import Session
@@ -95,13 +96,13 @@ class Replica:
         self._store: Optional[Store] = None
         # Of `stored`: the lines of the store that can't be used.
         self.unread: List[str] = []
-        # At a server's document the server's own operations up to this counter were the same.
-        self._same: Dict[Tuple[Optional[str], str], int] = {}
+        # For tests: what waiting goes by.
+        self.clock = Clock()
         self._syncing = threading.Lock()
         self._open(name.encode(), "".join(f"{line}\n" for line in operations).encode())
+        self._own = Own(0)
         self._listing, self._listed = threading.Lock(), self.front()
-        # Own operations up to these counters were sent, or may have been; and are in copies of a store, too, if there are any.
-        self._sent = self._restored = self._listed.get(name, 0)
+        self._own = Own(self._listed.get(name, 0))
 
     @classmethod
     def stored(cls, store: Store, library: Optional[ctypes.CDLL] = None) -> "Replica":
@@ -120,8 +121,14 @@ class Replica:
             replica = cls(fresh_name(store.name.rpartition("-")[0] or store.name), lines, library)
         if unread or lines != store.lines:
             store.replace(replica.name, lines)
-        replica._store, replica.unread = store, unread
+        replica._keep_in(store)
+        replica.unread = unread
         return replica
+
+    def _keep_in(self, store: Store) -> None:
+        self._store = store
+        self._own = Own(self._own.restored, True, store.is_new, store.sessions)
+        self._own.is_doubtful = store.is_doubtful
 
     def _open(self, name: bytes, lines: bytes) -> None:
         fault = _Fault()
@@ -165,6 +172,12 @@ class Replica:
         made one. Raises MemoryError, ValueError where it is closed, and Lost in another process."""
         self._check_process()
         with self._lock:
+            if self._own.is_doubtful and is_change(_request_of(line)):
+                self.say()
+            return self._answer(line)
+
+    def _answer(self, line: bytes) -> Tuple[bytes, Optional[str]]:
+        with self._lock:
             if not self._handle.is_open:
                 raise ValueError("the replica is closed")
             length = self._library.jcrdt_ask(byref(self._handle), line, len(line), self._room, len(self._room))
@@ -178,6 +191,22 @@ class Replica:
         if made:
             self._made.append(made.decode())
         return reply, made.decode() or None
+
+    @property
+    def is_doubtful(self) -> bool:
+        """Whether the store wasn't closed, so that another program may go on with it, and nobody was told."""
+        return self._own.is_doubtful
+
+    def say(self) -> None:
+        """Says, where the store wasn't closed, which operations its program may have, too (see copies.py). It is to come right behind
+        them, and before any of them is sent."""
+        with self._lock:
+            if self._store is None or not self._own.is_doubtful:
+                return
+            key = self._own.key(self.name, self._store.session)
+            _, made = self._answer(wire.encoded(["delete", [0, key]]))
+            if made is not None:
+                self._own.is_doubtful, self._own.said = False, int(wire.decoded(made.encode())[1][0])
 
     def ask(self, *request: Any) -> List[Any]:
         """What follows the word of the reply to a request of docs/FORMATS.md, without the document's name: `ask("keys", [0])`. A
@@ -209,7 +238,7 @@ class Replica:
         if self._store is None:
             raise ValueError("this replica has no store: Replica.stored opens one that has")
         with self._listing:
-            before = dict(self._listed)
+            before, has_said = dict(self._listed), not self._own.is_doubtful
             try:
                 lines = self._list()
                 if lines:
@@ -217,6 +246,8 @@ class Replica:
             except BaseException:
                 self._listed = before
                 raise
+            if has_said:
+                self._store.is_doubtful = False
 
     def save_if_stored(self) -> None:
         if self._store is not None:
@@ -325,17 +356,18 @@ class Replica:
         saves before anything is sent. Without one store what `logged` gives before: a replica that sent operations and lost them
         can't use its name again. One thread does it at a time.
 
+        A copy of the store that was made while it was open may have sent operations of this replica: it knows them for its own. Where
+        such a copy may be about to send more, it waits, up to 5 s behind the last one.
+
         Raises Differs where another store has used its name, as a copy of this one or an older one: nothing was exchanged then.
         Otherwise it goes on past what is refused, here or there, and raises that at last: Differs where two have one name, else
         Refused. Raises what `Session` raises, too; what was exchanged by then stays, and a later call goes on."""
         self.save_if_stored()
         with self._syncing:
-            place = (client.address, document)
-            work = Exchange(self, client, document, self._same.get(place, 0), self._sent)
+            work = Exchange(self, client, document, self._own)
             try:
                 work.run()
             finally:
-                self._same[place], self._sent = work.same, work.sent
                 self.save_if_stored()
         return work.came, work.went
 
@@ -351,7 +383,10 @@ class Replica:
         with self._syncing:
             may_send, turn = True, 1
             while True:
-                how = How(name, Exchange(self, client, document, 0, self._sent).forked_at(), self._restored, may_send)
+                own, forked = self._own, Exchange(self, client, document, self._own).forked_at()
+                # What is in the file may be in copies of it.
+                stored = self.front().get(self.name, 0) if own.is_filed else own.restored
+                how = How(name, forked, stored, own.logged, own.session_of, may_send)
                 log = (wire.encoded(it).decode() for it in client.operations(document))
                 with Replica(fresh_name("scratch"), log, self._library) as scratch:
                     remaking = Remaking(self, scratch, how)
@@ -369,7 +404,8 @@ class Replica:
             self._library.jcrdt_close(byref(self._handle))
             self._handle, new._handle = new._handle, _Handle()
             self.name, self._made, self._listed = name, [], self.front()
-            self._same, self._sent, self._restored = {}, 0, 0
+            sessions = self._store.sessions if self._store is not None else ()
+            self._own = Own(0, self._store is not None, True, sessions)
         return report
 
     def remake_in(self, other: "Replica", elements: Iterable[Any], lines: Optional[Iterable[str]] = None) -> Remade:
@@ -394,10 +430,18 @@ class Replica:
         return Remade(count, lost)
 
     def _unsent(self, operations: Sequence[Operation]) -> List[Operation]:
-        if not self._same:
+        if not self._own.same:
             raise ValueError("sync with the old document's server first")
-        same = max(self._same.values())
+        same = max(self._own.same.values())
         return [it for it in operations if it[1][1] == self.name and it[1][0] > same]
+
+
+def _request_of(line: bytes) -> Any:
+    """The request of a line, None for what is none."""
+    try:
+        return wire.decoded(line)
+    except ValueError:
+        return None
 
 
 def fitting(lines: Sequence[str], library: Optional[ctypes.CDLL] = None) -> Tuple[List[str], List[str]]:
