@@ -34,14 +34,15 @@ class Clock:
 
 class Own:
     """What is known of a replica's own operations, by their counters: those up to `restored` were in its store when that was opened,
-    those up to `sent` were sent, or may have been. Up to `ours` a server has them, and no other program sends under this name."""
+    those up to `sent` were sent, or may have been. Up to `ours` a server has them, and no other program sends under this name. Up to
+    `sure` a server's are those of this store, and not another's that are alike."""
 
     def __init__(self, restored: int, is_filed: bool = False, is_new: bool = False, sessions: Sequence[Session] = ()) -> None:
         """`is_filed` says that a store has what is made here, so that copies may have it; `is_new` that the name is of this opening."""
         self.restored = self.sent = self.ours = restored
         self.is_filed, self._is_new, self._sessions = is_filed, is_new, list(sessions)
         # Whether what was restored may be that of a program that goes on, and nothing has said so. Then the operation that has.
-        self.is_doubtful, self.said = False, 0
+        self.is_doubtful, self.said, self.sure = False, 0, 0
         # Those that a server logged when they were sent from here.
         self.logged: Set[int] = set()
         # At a server's document the server's own operations up to this counter were the same.

@@ -34,13 +34,14 @@ class Remade(NamedTuple):
 
 
 class How(NamedTuple):
-    """The new name; from which own counter on others have the ids; up to which own counter copies of the store may have operations; the
-    own ones that the server has logged from here; the word of the opening in which an own one was made; and whether the server may take
-    what is made again."""
+    """The new name; from which own counter on others have the ids; up to which own counter copies of the store may have operations, and up
+    to which the server's are this store's; the own ones that it has logged from here; the word of the opening in which an own one was
+    made; and whether the server may take what is made again."""
 
     name: str
     forked: Optional[int]
     stored: int
+    sure: int
     logged: AbstractSet[int]
     session_of: Callable[[int], str]
     may_send: bool
@@ -125,7 +126,7 @@ class Remaking:
     def _take_own(self, operation: Operation) -> None:
         counter, replica = operation[1]
         is_before = not self._is_forked and (self._how.forked is None or counter < self._how.forked)
-        if is_before and self._is_there(operation) and not self._is_of_another(operation):
+        if is_before and self._is_there(operation) and (counter <= self._how.sure or not self._is_of_another(operation)):
             self._good[replica] = counter
             return
         self._is_forked = True

@@ -386,7 +386,7 @@ class Replica:
                 own, forked = self._own, Exchange(self, client, document, self._own).forked_at()
                 # What is in the file may be in copies of it.
                 stored = self.front().get(self.name, 0) if own.is_filed else own.restored
-                how = How(name, forked, stored, own.logged, own.session_of, may_send)
+                how = How(name, forked, stored, own.sure, own.logged, own.session_of, may_send)
                 log = (wire.encoded(it).decode() for it in client.operations(document))
                 with Replica(fresh_name("scratch"), log, self._library) as scratch:
                     remaking = Remaking(self, scratch, how)

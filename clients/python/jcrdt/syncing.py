@@ -72,7 +72,9 @@ class Exchange:
         copy of its store that was made while it was open. Waits while such a copy may be about to send more."""
         while True:
             found = self.compared(theirs)
-            sure = found.same if self.own.is_ours else min(found.same, found.copied)
+            is_ours = self.own.is_ours and found.same > self.own.restored
+            sure = found.same if is_ours else min(found.same, found.copied)
+            self.own.sure = max(sure, self.own.sure)
             if sure > self.own.sent:
                 self.own.sent, self.own.ours = sure, max(sure, self.own.ours)
             self.own.same[self.place] = min(found.same, self.own.sent)
@@ -94,8 +96,10 @@ class Exchange:
         there = (it for it in others if it[1][1] == self.name and it[1][0] <= last)
         differs, unsent, copied = None, None, 0
         for one, other in zip_longest(mine, there):
+            if other is not None:
+                copied = max(copied, self.own.copied(other))
             if other is not None and other[1][0] > self.own.sent:
-                unsent, copied = unsent or other[1][0], max(copied, self.own.copied(other))
+                unsent = unsent or other[1][0]
             if differs is None and one == other:
                 same = one[1][0]
             elif differs is None:

@@ -80,6 +80,16 @@ class Program:
             self.me.add([0, "votes"], 1)
         self.me.save()
 
+    def begin_card(self) -> None:
+        if "cards" not in self.me.ask("keys", [0])[0]:
+            self.me.put([0, "cards"], [])
+        self.me.insert([0, "cards", 0], {})
+        self.me.save()
+
+    def title_card(self, title: str) -> None:
+        self.me.assign([0, "cards", 1, "title"], title)
+        self.me.save()
+
     def vote(self, count: int) -> None:
         for _ in range(count):
             self.me.add([0, "votes"], 1)
@@ -192,6 +202,51 @@ def test_votes_alike_in_the_original_and_in_copies_all_count(client: Session, tm
     check(programs, client, ["base"], votes)
 
 
+@pytest.mark.parametrize("who, is_reopened", itertools.product(["original", "copy"], [False, True]))
+def test_a_card_that_was_begun_when_the_copy_was_made_is_one(client: Session, tmp_path: Path, who: str, is_reopened: bool) -> None:
+    """Its title came behind. It isn't that of two that began a card each."""
+    me = begun(tmp_path / "store", client)
+    me.me.insert([0, "list", 0], {})
+    me.me.save()
+    copy = me.copied(tmp_path / "copy")
+    me.me.assign([0, "list", 1, "title"], "original's")
+    me.me.save()
+    copy.me.assign([0, "list", 1, "text"], "copy's")
+    copy.me.save()
+    if is_reopened:
+        for it in (me, copy):
+            it.close()
+            it.open()
+    for it in 2 * [me, copy] if who == "original" else 2 * [copy, me]:
+        it.sync(client)
+    due = [{"title": "original's", "text": "copy's"}, "base"]
+    assert client.plain("d", [0, "list"]) == me.me.plain([0, "list"]) == copy.me.plain([0, "list"]) == due
+    me.close()
+    copy.close()
+
+
+@pytest.mark.parametrize("how", ["closed", "killed"])
+def test_cards_that_were_begun_alike_behind_a_closed_store_are_two(client: Session, tmp_path: Path, how: str) -> None:
+    me = begun(tmp_path / "store", client)
+    me.close()
+    shutil.copy(me.path, tmp_path / "copy")
+    programs = [Program(it) for it in (me.path, tmp_path / "copy")]
+    for number, it in enumerate(programs):
+        it.me.insert([0, "list", 0], {})
+        it.me.assign([0, "list", 1, "title"], f"card {number}")
+        it.me.save()
+        {"closed": it.close, "killed": it.kill}[how]()
+        it.open()
+        it.vote(1)
+    for it in 2 * programs:
+        it.sync(client)
+    shown = client.plain("d", [0])
+    assert (sorted(it["title"] for it in shown["list"] if it != "base"), shown["votes"]) == (["card 0", "card 1"], jcrdt.Counter(3))
+    for it in programs:
+        assert it.me.plain() == shown
+        it.close()
+
+
 @pytest.mark.parametrize("is_synced", [True, False])
 def test_a_copy_of_what_the_server_has_votes_alike(client: Session, tmp_path: Path, is_synced: bool) -> None:
     """It has nothing to send at first, and says where it begins all the same."""
@@ -272,6 +327,7 @@ class Rounds:
         self.programs = [begun(folder / "0", client if self.dice.random() < 0.5 else None)]
         self.texts, self.votes = ["base"], 1
         self.cut: List[Program] = []
+        self.titles: List[str] = []
 
     def come_back(self) -> None:
         while self.cut:
@@ -284,6 +340,12 @@ class Rounds:
             self.texts.append(f"{self.seed} {number}")
             it.write(self.texts[-1])
             self.votes += 1
+        elif chance < 0.4:
+            self.titles.append(f"{self.seed} {number}")
+            it.begin_card()
+            if self.dice.random() < 0.3 and len(self.programs) < 6:
+                self.programs.append(it.copied(self.folder / str(len(self.programs))))
+            it.title_card(self.titles[-1])
         elif chance < 0.5:
             count = 1 + self.dice.randrange(3)
             it.vote(count)
@@ -317,6 +379,8 @@ def test_random_copies_of_running_stores(client: Session, tmp_path: Path, monkey
         rounds.turn(number)
     rounds.dice.shuffle(rounds.programs)
     check(rounds.programs, client, rounds.texts, rounds.votes)
+    cards = client.plain("d", [0]).get("cards", [])
+    assert sorted(it["title"] for it in cards if "title" in it) == sorted(rounds.titles)
 
 
 @pytest.mark.parametrize("seed", range(12))
