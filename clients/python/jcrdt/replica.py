@@ -361,7 +361,8 @@ class Replica:
 
         Raises Differs where another store has used its name, as a copy of this one or an older one: nothing was exchanged then.
         Otherwise it goes on past what is refused, here or there, and raises that at last: Differs where two have one name, else
-        Refused. Raises what `Session` raises, too; what was exchanged by then stays, and a later call goes on."""
+        Refused. Raises what `Session` raises, too; what was exchanged by then stays, and a later call goes on. That is Renewed where a
+        hub has renewed the document: a new replica goes on there, and `remake_in` makes what the hub lacks again in that."""
         self.save_if_stored()
         with self._syncing:
             work = Exchange(self, client, document, self._own)
@@ -409,8 +410,8 @@ class Replica:
         return report
 
     def remake_in(self, other: "Replica", elements: Iterable[Any], lines: Optional[Iterable[str]] = None) -> Remade:
-        """Makes own edits again in the replica of a new document, whose content `python -m jcrdt renew put` made of this one's.
-        `elements` has the lines that its --map writes, or pairs of ids. `lines` are operations of this document; where none are given,
+        """Makes own edits again in the replica of a new document, whose content `python -m jcrdt renew put` made of this one's, or of a
+        later generation. `elements` has the lines that its --map writes, or pairs of ids, as of `Session.elements_since`. `lines` are operations of this document; where none are given,
         the own ones that no server has. An element that the new document lacks, or that was deleted there, can't be edited there: that
         operation is lost. What is behind a deleted element goes behind the one before it. Raises ValueError without lines before a `sync` with a server."""
         old, lost, count = self.operations(), [], 0

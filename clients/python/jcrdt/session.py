@@ -20,15 +20,16 @@ import socket
 import threading
 import time
 from types import TracebackType
-from typing import Any, Deque, Iterable, Iterator, List, Literal, Optional, Sequence, Type, TypeVar
+from typing import Any, Deque, Iterable, Iterator, List, Literal, Optional, Sequence, Tuple, Type, TypeVar
 
-from . import loading, mending, nested, wire
+from . import generations, loading, mending, nested, wire
+from .generations import Generation
 from .limits import SIGN_SECONDS, USUAL, Limits
 from .replies import Reply, checked_beginning, front_in, id_in, logged_in, page_in, reply_of
 from .steps import Steps
 from .stream import Stream
 from .tagged import tagged
-from .wire import Away, Cursor, Front, Id, Lost, Misbehaved, Operation, Refused, Size, encoded
+from .wire import Away, Cursor, Front, Id, Lost, Misbehaved, Operation, Refused, Renewed, Size, encoded
 
 T = TypeVar("T")
 FORKED = "it was opened in another process: connect in this one"
@@ -134,10 +135,15 @@ class Session:
         asked = list(requests)
         found = self.answers([encoded(request) for request in asked])
         try:
-            return [reply_of(line, request) for request, line in zip(asked, found)]
+            replies = [reply_of(line, request) for request, line in zip(asked, found)]
         except Misbehaved as error:
             self.broken = str(error)
             raise
+        for request, reply in zip(asked, replies):
+            if isinstance(reply, Renewed):
+                reply.document = str(request[1])
+                reply.generation = self.history(reply.document)[-1].name
+        return replies
 
     def _run(self, steps: Steps[T]) -> T:
         """Asks what the steps want, and returns what they found. Other threads wait meanwhile."""
@@ -306,7 +312,8 @@ class Session:
     def watch(self, document: str, seconds: float = 0.5, timeout: Optional[float] = None) -> Iterator[Front]:
         """Yields the front at once, and again each time that it has changed; with a timeout until it hasn't for so many
         seconds. A hub says when that is. A server is asked every so many seconds, and each question is one of the
-        1,000,000 lines of a session. Between two yields the session may be used."""
+        1,000,000 lines of a session. Between two yields the session may be used. Where a hub renews the document, the next
+        front is that of the next generation: `generation_of(front)` says of which one it is."""
         pushed = self._is_pushed(document)
         last: Optional[Front] = None
         until = float("inf")
@@ -345,9 +352,9 @@ class Session:
 
     def unsaved(self, document: str, ids: Iterable[Id]) -> List[Id]:
         """Those of the ids that the server doesn't have. `applied` says that an operation is logged. It is in the
-        file later, and a kill in between loses it: see `Writes`."""
-        front = self.front(document)
-        return [it for it in ids if not wire.covers(front, it)]
+        file later, and a kill in between loses it: see `Writes`. What a generation of before had at its end counts as
+        there: the document shows it."""
+        return self._run(generations.unsaved(document, ids))
 
     def stored(self, document: str, operation_id: Id) -> None:
         """Waits until the operation is in the server's file. Only a hub answers that, and refuses with 104 if it
@@ -361,6 +368,40 @@ class Session:
     def copied(self, document: str, operation_id: Id) -> bool:
         """Whether the server's file has the operation of this id now. Servers before 1.2.0 refuse it with 2."""
         return bool(self.ask("copied", document, operation_id)[0])
+
+    # Which documents there are, at a hub that runs their servers.
+
+    def create(self, document: str) -> None:
+        """Makes a document, which isn't open by that: its server is started once somebody opens it. A name has 1 to 32 of
+        a-z, 0-9, -.
+
+        Raises Refused, and makes none: 105 (there-already) where there is one of this name, 103 (not-allowed) where this
+        client may not, 2 (bad-request) for what is no name, and by a server and a hub that has one. Raises Away where the
+        hub has no room for more, or its disk is full."""
+        self.ask("create", document)
+
+    def list(self) -> List[str]:
+        """The names of all documents that this client may read, in byte order, asking for 1,000 at a time. One that is
+        made or renamed meanwhile may be in it or not. Raises Refused: 103 where this client may not ask that, 2 by a server
+        and a hub that has one."""
+        names: List[str] = []
+        while True:
+            [page] = self.ask("list", names[-1] if names else "")
+            names += page
+            if len(page) < wire.LISTED:
+                return names
+
+    def history(self, document: str) -> List[Generation]:
+        """The generations of a document that is open; the last of them takes changes. One of before is opened as
+        DOCUMENT/GENERATION and only read, if the hub has kept it: a change of it is refused by 103. Raises Refused: 5
+        (not-open), and 2 by a server and a hub that has one."""
+        return generations.generations_in(self.ask("history", document))
+
+    def elements_since(self, document: str, generation: str) -> List[Tuple[Id, Id]]:
+        """The elements that a generation of before showed at its end, and what they are now, over all generations since:
+        pairs of ids, as `Replica.remake_in` takes them. Those that were deleted since aren't in it. Raises ValueError where
+        the document, which is open, has no such generation, and Refused as `history`."""
+        return self._run(generations.elements_since(document, generation))
 
     def account(self, document: str) -> int:
         return int(self.ask("account", document)[0])

@@ -77,10 +77,12 @@ class Exchange:
             self.own.sure = max(sure, self.own.sure)
             if sure > self.own.sent:
                 self.own.sent, self.own.ours = sure, max(sure, self.own.ours)
-            self.own.same[self.place] = min(found.same, self.own.sent)
+            self.own.same.setdefault(self.place, 0)
+            if theirs.get(self.name, 0):
+                self.own.same[self.place] = min(found.same, self.own.sent)
             if found.same <= self.own.sent and found.differs is None:
                 return
-            last = theirs.get(self.name, 0)
+            last = theirs[self.name]
             if found.differs is not None or not self.own.must_wait(last, self.replica.clock):
                 of_another = max(found.unsent or 0, self.own.sent + 1) if found.same > self.own.sent else found.differs
                 raise Differs(self.name, of_another or last, True)
