@@ -146,9 +146,9 @@ def test_a_fork_leaves_the_store_to_the_parent(tmp_path: Path) -> None:
 
 
 def test_a_killed_program_leaves_no_lock(tmp_path: Path) -> None:
-    words = [sys.executable, "-c", "import sys, time; from jcrdt.store import Store\nstore = Store(sys.argv[1], 'notes')\n"
-             "print('open', flush=True)\ntime.sleep(600)", str(tmp_path / "notes")]
-    with subprocess.Popen(words, stdout=subprocess.PIPE, env={**os.environ, "PYTHONPATH": str(PACKAGE)}) as child:
+    words = [sys.executable, "-c", "import sys; from jcrdt.store import Store\nstore = Store(sys.argv[1], 'notes')\n"
+             "print('open', flush=True)\nsys.stdin.read()", str(tmp_path / "notes")]
+    with subprocess.Popen(words, stdin=subprocess.PIPE, stdout=subprocess.PIPE, env={**os.environ, "PYTHONPATH": str(PACKAGE)}) as child:
         assert child.stdout is not None and child.stdout.readline() == b"open\n"
         with pytest.raises(Busy):
             opened(tmp_path / "notes")
