@@ -145,7 +145,7 @@ class Session:
                 reply.generation = (await self.history(reply.document))[-1].name
         return replies
 
-    async def _run(self, steps: Steps[T]) -> T:
+    async def run(self, steps: Steps[T]) -> T:
         """Asks what the steps want, and returns what they found."""
         try:
             requests = next(steps)
@@ -263,7 +263,7 @@ class Session:
 
     async def bind(self, document: str, name: str, cursor: Cursor, element: Id) -> bool:
         """Binds a name to the element of this id in the list at the cursor: see jcrdt.Session.bind."""
-        return await self._run(nested.bind(document, name, cursor, element))
+        return await self.run(nested.bind(document, name, cursor, element))
 
     async def append(self, document: str, cursor: Cursor, value: Any) -> Id:
         """Inserts a value, nested or not, behind the last element of the list at the cursor. Returns its id."""
@@ -273,13 +273,13 @@ class Session:
         """Inserts values behind the last element of the list at the cursor. Returns their ids. Another nested write of
         this session waits meanwhile."""
         async with self._writing:
-            return await self._run(nested.extend(document, cursor, values))
+            return await self.run(nested.extend(document, cursor, values))
 
     async def put(self, document: str, cursor: Cursor, value: Any, only: Optional[Literal["changed"]] = None) -> None:
         """Assigns a nested value, one request for each part, or what differs alone: see jcrdt.Session.put. Another nested
         write of this session waits meanwhile. A task that is cancelled leaves the first part of it there."""
         async with self._writing:
-            await self._run(nested.put(document, cursor, value) if only is None else
+            await self.run(nested.put(document, cursor, value) if only is None else
                             mending.put_changed(document, cursor, value))
 
     # Readings.
@@ -316,7 +316,7 @@ class Session:
     async def load_json(self, document: str, cursor: Cursor, data: Any) -> int:
         """Makes what is at the cursor into a value that `export` gave: see jcrdt.Session.load_json."""
         async with self._writing:
-            return await self._run(loading.load_json(document, cursor, data))
+            return await self.run(loading.load_json(document, cursor, data))
 
     # What servers deliver to each other.
 
@@ -387,7 +387,7 @@ class Session:
 
     async def unsaved(self, document: str, ids: Iterable[Id]) -> List[Id]:
         """Those of the ids that the server doesn't have: see jcrdt.Session.unsaved."""
-        return await self._run(generations.unsaved(document, ids))
+        return await self.run(generations.unsaved(document, ids))
 
     async def stored(self, document: str, operation_id: Id) -> None:
         """Waits until the operation is in the server's file: see jcrdt.Session.stored."""
@@ -422,7 +422,7 @@ class Session:
 
     async def elements_since(self, document: str, generation: str) -> List[Tuple[Id, Id]]:
         """The elements of a generation of before, and what they are now: see jcrdt.Session.elements_since."""
-        return await self._run(generations.elements_since(document, generation))
+        return await self.run(generations.elements_since(document, generation))
 
     async def account(self, document: str) -> int:
         return int((await self.ask("account", document))[0])

@@ -27,11 +27,11 @@ class Generation(NamedTuple):
 
 class Moved(NamedTuple):
     """What became of a generation: its front at its end, that of the next one's beginning, and elements as they were and as they are
-    there."""
+    there; the third item is true for the first of a list."""
 
     end: Front
     start: Front
-    elements: List[Tuple[Id, Id]]
+    elements: List[Tuple[Id, Id, bool]]
 
 
 def generation_of(front: Mapping[str, int]) -> str:
@@ -56,26 +56,39 @@ def moved_in(rest: List[Any]) -> Moved:
         end, start, pairs = rest
         if not all(isinstance(it, list) and all(map(is_id, it[:2])) and len(it) in (2, 3) for it in pairs):
             raise ValueError
-        return Moved(checked_front(end), checked_front(start), [(it[0], it[1]) for it in pairs])
+        return Moved(checked_front(end), checked_front(start), [(it[0], it[1], len(it) == 3) for it in pairs])
     except (TypeError, ValueError, Refused):
         raise Misbehaved("a map that is none") from None
 
 
-def elements_since(document: str, generation: str) -> Steps[List[Tuple[Id, Id]]]:
-    """The elements of a generation, and what they are now."""
+def move_from(document: str, generation: str) -> Steps[Moved]:
+    """What became of a generation, with all of its elements."""
+    found = moved_in(good((yield [["map", document, generation, 0]]))[0])
+    is_more = len(found.elements) == LIMITS["mapped"]
+    while is_more:
+        more = moved_in(good((yield [["map", document, generation, len(found.elements)]]))[0]).elements
+        found.elements.extend(more)
+        is_more = len(more) == LIMITS["mapped"]
+    return found
+
+
+def names_since(document: str, generation: str) -> Steps[List[str]]:
+    """The names of a generation and of those since. Raises ValueError where the document has no such one."""
     names = [it.name for it in generations_in(good((yield [["history", document]]))[0])]
     if generation not in names:
-        raise ValueError(f"{document} has no generation {generation}")
+        raise ValueError(f"{document} has no generation {generation} at this hub")
+    return names[names.index(generation):]
+
+
+def elements_since(document: str, generation: str) -> Steps[List[Tuple[Id, Id]]]:
+    """The elements of a generation, and what they are now."""
+    names = yield from names_since(document, generation)
     found: List[Tuple[Id, Id]] = []
-    for number, name in enumerate(names[names.index(generation):-1]):
-        step: List[Tuple[Id, Id]] = []
-        while not step or len(step) % LIMITS["mapped"] == 0:
-            page = moved_in(good((yield [["map", document, name, len(step)]]))[0]).elements
-            step += page
-            if not page:
-                break
-        after = {(old[0], old[1]): now for old, now in step}
-        found = [(old, after[now[0], now[1]]) for old, now in found if (now[0], now[1]) in after] if number else step
+    for number, name in enumerate(names[:-1]):
+        step = (yield from move_from(document, name)).elements
+        after = {(old[0], old[1]): now for old, now, _ in step}
+        found = ([(old, after[now[0], now[1]]) for old, now in found if (now[0], now[1]) in after] if number
+                 else [(old, now) for old, now, _ in step])
     return found
 
 

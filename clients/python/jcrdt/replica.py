@@ -13,17 +13,20 @@ import os
 import platform
 import threading
 from ctypes import POINTER, Structure, byref, c_bool, c_char_p, c_size_t, c_uint64, c_void_p
-from typing import Any, Dict, Iterable, List, Optional, Sequence, Tuple
+from typing import Any, Callable, Dict, Iterable, List, Optional, Sequence, Tuple
 
 from . import wire
 from .again import Places
+from .carrying import carried
 from .copies import Clock, Own, is_change
+from .generations import generation_of
+from .later import Later
 from .protocol import NUMBERS
 from .remaking import ROUNDS, How, Remade, Remaking
 from .session import Session
 from .store import Store, fresh_name
 from .syncing import Exchange
-from .wire import Cursor, Front, Id, Lost, Operation, Refused
+from .wire import Cursor, Front, Id, Lost, Operation, Refused, Renewed, covers
 
 # The first room for the text of an answer, in bytes.
 ROOM = 65_536
@@ -362,7 +365,7 @@ class Replica:
         Raises Differs where another store has used its name, as a copy of this one or an older one: nothing was exchanged then.
         Otherwise it goes on past what is refused, here or there, and raises that at last: Differs where two have one name, else
         Refused. Raises what `Session` raises, too; what was exchanged by then stays, and a later call goes on. That is Renewed where a
-        hub has renewed the document: a new replica goes on there, and `remake_in` makes what the hub lacks again in that."""
+        hub has renewed the document: `renew` goes on there."""
         self.save_if_stored()
         with self._syncing:
             work = Exchange(self, client, document, self._own)
@@ -390,6 +393,9 @@ class Replica:
                 how = How(name, forked, stored, own.sure, own.logged, own.session_of, may_send)
                 log = (wire.encoded(it).decode() for it in client.operations(document))
                 with Replica(fresh_name("scratch"), log, self._library) as scratch:
+                    now = generation_of(scratch.front())
+                    if scratch.front() and now != generation_of(self.front()):
+                        raise Renewed(document, now)
                     remaking = Remaking(self, scratch, how)
                     if remaking.send(client, document):
                         return self._go_on(name, remaking, scratch)
@@ -398,16 +404,62 @@ class Replica:
     def _go_on(self, name: str, remaking: Remaking, scratch: "Replica") -> Remade:
         """Uses what was made again. Nothing is edited meanwhile."""
         with self._listing, self._lock:
-            report, lines = remaking.run(), scratch.lines()
-            new = Replica(name, lines, self._library)
-            if self._store is not None:
-                self._store.replace(name, lines)
-            self._library.jcrdt_close(byref(self._handle))
-            self._handle, new._handle = new._handle, _Handle()
-            self.name, self._made, self._listed = name, [], self.front()
-            sessions = self._store.sessions if self._store is not None else ()
-            self._own = Own(0, self._store is not None, True, sessions)
+            report = remaking.run()
+            self._use(name, scratch.lines())
         return report
+
+    def _use(self, name: str, lines: List[str]) -> None:
+        """Goes on under a new name, with this log."""
+        new = Replica(name, lines, self._library)
+        if self._store is not None:
+            self._store.replace(name, lines)
+        self._library.jcrdt_close(byref(self._handle))
+        self._handle, new._handle = new._handle, _Handle()
+        self.name, self._made, self._listed = name, [], self.front()
+        sessions = self._store.sessions if self._store is not None else ()
+        self._own = Own(0, self._store is not None, True, sessions)
+
+    def renew(self, name: str, client: Session, document: str) -> Remade:
+        """Goes on under a new name in the generation that the document is in now, after `sync` has given Renewed. Takes that one's log,
+        and own edits that the hub lacked when their generation ended, made again: over all generations since, and once, also by copies
+        of the store, or by a program that was killed meanwhile. `lost` has those that aren't made: of elements that were deleted
+        meanwhile, and assignments and deletions of what others have changed meanwhile, unless those generations aren't kept any more.
+        A replica of a store writes the file anew: PATH.old keeps it as it was. Then `sync`. Raises what `sync` raises, and ValueError
+        where the hub has no such generation, or for a name that is none; nothing was changed here then."""
+        if not wire.NAME.match(name):
+            raise ValueError(f"{name!r} is no name of a replica: 1 to 32 of a-z, 0-9, -")
+        self.save_if_stored()
+        with self._syncing:
+            later = Later(client, document, self.front())
+            forked = self._forked_before(client, later.past)
+            steps, log = later.found(self)
+            if not steps:
+                # It is that generation.
+                return Remade(0, [])
+            with self._listing, self._lock:
+                is_there: Callable[[Id], bool] = lambda it: covers(steps[0].end, it) and not self._is_forked(it, forked)
+                found = carried(self.operations(), steps, is_there, self._maker_of)
+                there = wire.front_of(log)
+                again = [it for it in found.operations if not covers(there, it[1])]
+                self._use(name, [wire.encoded(it).decode() for it in [*log, *again]])
+        return Remade(len(again), found.lost)
+
+    def _maker_of(self, operation_id: Id) -> List[str]:
+        """Who made an operation: its replica, and the opening of the store, where that is known."""
+        counter, replica = operation_id
+        session = self._own.session_of(counter) if replica == self.name else ""
+        return [replica, session] if session else [replica]
+
+    def _is_forked(self, operation_id: Id, forked: Optional[int]) -> bool:
+        """Whether another has the id of an own operation."""
+        return forked is not None and operation_id[1] == self.name and bool(operation_id[0] >= forked)
+
+    def _forked_before(self, client: Session, past: str) -> Optional[int]:
+        """From which own counter on a generation has operations of another of this name; none where it isn't kept."""
+        try:
+            return Exchange(self, client, past, self._own).forked_at()
+        except Refused:
+            return None
 
     def remake_in(self, other: "Replica", elements: Iterable[Any], lines: Optional[Iterable[str]] = None) -> Remade:
         """Makes own edits again in the replica of a new document, whose content `python -m jcrdt renew put` made of this one's, or of a

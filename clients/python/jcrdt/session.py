@@ -145,7 +145,7 @@ class Session:
                 reply.generation = self.history(reply.document)[-1].name
         return replies
 
-    def _run(self, steps: Steps[T]) -> T:
+    def run(self, steps: Steps[T]) -> T:
         """Asks what the steps want, and returns what they found. Other threads wait meanwhile."""
         self._check_process()
         with self.lock:
@@ -209,7 +209,7 @@ class Session:
         """Binds a name to the element of this id in the list at the cursor, and checks that it is that one.
         Returns False if the element isn't there (any more). Raises TimeoutError if others change the list so fast
         that it isn't met for 10 s."""
-        return self._run(nested.bind(document, name, cursor, element))
+        return self.run(nested.bind(document, name, cursor, element))
 
     def append(self, document: str, cursor: Cursor, value: Any) -> Id:
         """Inserts a value, nested or not, behind the last element of the list at the cursor, as `put` writes it.
@@ -218,7 +218,7 @@ class Session:
 
     def extend(self, document: str, cursor: Cursor, values: Sequence[Any]) -> List[Id]:
         """Inserts values behind the last element of the list at the cursor. Returns their ids. Raises as `put`."""
-        return self._run(nested.extend(document, cursor, values))
+        return self.run(nested.extend(document, cursor, values))
 
     def put(self, document: str, cursor: Cursor, value: Any, only: Optional[Literal["changed"]] = None) -> None:
         """Assigns a nested value: {} or [] first, and then what is in it, one request each. It takes what
@@ -236,7 +236,7 @@ class Session:
         as its front and the counters of its operations say: see room.py. So nothing is left half made but where
         others take the room meanwhile, or the connection fails: after such a Refused or Lost the first part of the
         value is there."""
-        self._run(nested.put(document, cursor, value) if only is None else mending.put_changed(document, cursor, value))
+        self.run(nested.put(document, cursor, value) if only is None else mending.put_changed(document, cursor, value))
 
     # Readings.
 
@@ -277,7 +277,7 @@ class Session:
 
         Raises ValueError for what is no such value, or a cursor with an index or a name, and Refused (18, 19) where the
         document has no room, both before anything is changed. Otherwise as `put` with only="changed"."""
-        return self._run(loading.load_json(document, cursor, data))
+        return self.run(loading.load_json(document, cursor, data))
 
     # What servers deliver to each other.
 
@@ -354,7 +354,7 @@ class Session:
         """Those of the ids that the server doesn't have. `applied` says that an operation is logged. It is in the
         file later, and a kill in between loses it: see `Writes`. What a generation of before had at its end counts as
         there: the document shows it."""
-        return self._run(generations.unsaved(document, ids))
+        return self.run(generations.unsaved(document, ids))
 
     def stored(self, document: str, operation_id: Id) -> None:
         """Waits until the operation is in the server's file. Only a hub answers that, and refuses with 104 if it
@@ -401,7 +401,7 @@ class Session:
         """The elements that a generation of before showed at its end, and what they are now, over all generations since:
         pairs of ids, as `Replica.remake_in` takes them. Those that were deleted since aren't in it. Raises ValueError where
         the document, which is open, has no such generation, and Refused as `history`."""
-        return self._run(generations.elements_since(document, generation))
+        return self.run(generations.elements_since(document, generation))
 
     def account(self, document: str) -> int:
         return int(self.ask("account", document)[0])

@@ -61,8 +61,8 @@ class Refused(Exception):
 
 class Renewed(Refused):
     """106: nothing was changed. What was asked is of a generation of the document that takes no changes any more: it goes on in another
-    one, `generation`, where elements have other ids. Begin anew in that: from an empty front, or with a new replica. `elements_since`
-    of a session leads from elements of before to those of now."""
+    one, `generation`, where elements have other ids. Begin anew in that from an empty front; `renew` of a replica goes on there with its
+    edits, and `elements_since` of a session leads from elements of before to those of now."""
 
     def __init__(self, document: str = "", generation: str = "") -> None:
         super().__init__(NUMBERS["renewed"])
@@ -70,7 +70,7 @@ class Renewed(Refused):
 
     def __str__(self) -> str:
         where = f": {self.document} goes on in the generation {self.generation}, and this is of one before" if self.generation else ""
-        return f"{super().__str__()}{where}: begin anew, from an empty front or with a new replica"
+        return f"{super().__str__()}{where}: begin anew, from an empty front, or by `renew` of a replica"
 
 
 class Lost(ConnectionError):

@@ -3,6 +3,7 @@
 import asyncio
 import json
 import os
+import random
 import shutil
 import signal
 import subprocess
@@ -12,6 +13,7 @@ from typing import Any, Callable, Iterator, List, Tuple
 import pytest
 
 from conftest import PROGRAM, SECONDS, TOP, tool
+from test_running_copies import Program, state
 
 import jcrdt
 from jcrdt import Away, Desk, Lost, Refused, Renewed, Writes, aio, generation_of
@@ -19,6 +21,8 @@ from jcrdt import nested
 from jcrdt import replica as replica_module
 from jcrdt.replica import Replica
 from jcrdt.session import Session
+from jcrdt.store import Store, fresh_name
+from jcrdt.syncing import Differs
 
 pytestmark = pytest.mark.skipif(shutil.which("node") is None, reason="node isn't here")
 
@@ -181,7 +185,7 @@ def test_what_is_of_a_generation_before_says_where_it_goes_on(hub: Hub) -> None:
         assert [old for old, _ in moved] == ids[:2]
         assert client.bind("d", "it", [0, "list"], moved[1][1]) and client.values("d", ["it"]) == ["two"]
         assert not client.bind("d", "it", [0, "list"], [99, "nobody"])
-        with pytest.raises(ValueError, match="d has no generation 7"):
+        with pytest.raises(ValueError, match="d has no generation 7 at this hub"):
             client.elements_since("d", "7")
         assert list(client.operations("d")) == before
         assert client.unsaved("d", [*ids, [99, "nobody"]]) == [[99, "nobody"]]
@@ -263,42 +267,237 @@ def test_who_follows_begins_anew(hub: Hub) -> None:
 
 
 @needs_library
-def test_a_replica_that_was_never_synced_goes_on_as_a_new_one(hub: Hub) -> None:
-    with opened(hub) as client, Replica("ada-1") as me, Replica("ada-2") as new:
+@pytest.mark.parametrize("renewals", [1, 3])
+def test_a_replica_goes_on_in_a_later_generation(hub: Hub, tmp_path: Path, renewals: int) -> None:
+    """What it made meanwhile goes along, also what it began itself; it isn't made of what was deleted."""
+    with opened(hub) as client, Store(str(tmp_path / "ada"), "d", "ada") as store, Replica.stored(store) as me:
+        client.put("d", [0], {"list": ["one", "two", "three"], "votes": jcrdt.Counter(1)})
+        me.put([0, "mine"], True)
+        me.sync(client, "d")
+        client.delete("d", [0, "list", 1])
+        for _ in range(renewals):
+            generation = hub.desk.renew("d")
+            client.append("d", [0, "list"], generation)
+        me.assign([0, "list", 2], "TWO")
+        me.insert([0, "list", 1], "behind one")
+        me.assign([0, "list", 1], "ONE")
+        me.put([0, "cards"], [{"title": "a", "tags": ["x", "y"]}])
+        me.delete([0, "list", 1])
+        me.add([0, "votes"], 2)
+        for _ in range(2):
+            with pytest.raises(Renewed, match=f"d goes on in the generation {generation}"):
+                me.sync(client, "d")
+        name = fresh_name("ada")
+        count, lost = me.renew(name, client, "d")
+        assert (me.name, count) == (name, 9) and [it[4] for it in lost] == [["assign", "ONE"]]
+        me.sync(client, "d")
+        shown = client.plain("d", [0])
+        assert shown["list"][:3] == ["behind one", "TWO", "three"] and len(shown["list"]) == 3 + renewals
+        assert (shown["cards"], shown["votes"], shown["mine"]) == ([{"title": "a", "tags": ["x", "y"]}], jcrdt.Counter(3), True)
+        assert me.plain() == shown and generation_of(me.front()) == generation
+        assert me.renew(fresh_name("ada"), client, "d") == (0, []) and me.name == name
+        me.assign([0, "mine"], False)
+        me.sync(client, "d")
+    with Store(str(tmp_path / "ada"), "d") as store, Replica.stored(store) as me, opened(hub) as client:
+        assert (me.name, me.unread, me.sync(client, "d")) == (name, [], (0, 0))
+        assert me.plain() == client.plain("d", [0])
+
+
+@needs_library
+def test_a_replica_that_was_never_synced_goes_on_in_a_later_generation(hub: Hub) -> None:
+    with opened(hub) as client, Replica("ada-1") as me:
         client.put("d", [0], {"list": ["one"]})
         hub.desk.renew("d")
         me.put([0, "mine"], ["a", "b"])
         with pytest.raises(Renewed):
             me.sync(client, "d")
-        new.sync(client, "d")
-        assert me.remake_in(new, client.elements_since("d", generation_of(me.front()))) == (3, [])
-        new.sync(client, "d")
-        assert client.plain("d", [0]) == new.plain() == {"list": ["one"], "mine": ["a", "b"]}
+        assert me.renew("ada-2", client, "d") == (3, [])
+        me.sync(client, "d")
+        assert client.plain("d", [0]) == me.plain() == {"list": ["one"], "mine": ["a", "b"]}
 
 
 @needs_library
-def test_a_replica_of_a_generation_before_goes_on_as_a_new_one(hub: Hub) -> None:
-    """By hand: what it made meanwhile is made again in a new replica, by the elements of then and now."""
+def test_what_others_stored_meanwhile_is_not_cleared(hub: Hub) -> None:
+    """In one generation it would stay beside it."""
+    with opened(hub) as client, Replica("ada-1") as me:
+        client.put("d", [0], {"title": "Plan", "card": {"text": "old"}, "same": 1})
+        me.sync(client, "d")
+        client.assign("d", [0, "title"], "by others")
+        hub.desk.renew("d")
+        client.assign("d", [0, "card", "text"], "by others, later")
+        hub.desk.renew("d")
+        me.assign([0, "title"], "mine")
+        me.delete([0, "card"])
+        me.assign([0, "same"], 2)
+        count, lost = me.renew("ada-2", client, "d")
+        assert (count, [it[4] for it in lost]) == (1, [["assign", "mine"], ["delete"]])
+        me.sync(client, "d")
+        assert client.plain("d", [0]) == {"title": "by others", "card": {"text": "by others, later"}, "same": 2}
+
+
+@needs_library
+@pytest.mark.parametrize("is_running", [True, False])
+def test_copies_of_one_store_bring_an_edit_over_once(hub: Hub, tmp_path: Path, is_running: bool) -> None:
+    """Of a store that was open when it was copied, or closed. What each has edited since is its own, however alike."""
+    path, copy = str(tmp_path / "ada"), str(tmp_path / "copy")
+    with opened(hub) as client:
+        client.put("d", [0], {"list": ["one"], "votes": jcrdt.Counter(0)})
+        with Store(path, "d", "ada") as store, Replica.stored(store) as me:
+            me.sync(client, "d")
+            me.insert([0, "list", 1], "both")
+            me.add([0, "votes"], 1)
+            me.save()
+            shutil.copy(path, copy)
+            if is_running:
+                me.insert([0, "list", 1], "of the first")
+        if not is_running:
+            shutil.copy(path, copy)
+        hub.desk.renew("d")
+        for turn in range(2):
+            for file in (path, copy):
+                with Store(file, "d") as store, Replica.stored(store) as me:
+                    if turn == 0:
+                        me.add([0, "votes"], 1)
+                    try:
+                        me.sync(client, "d")
+                    except Renewed:
+                        assert me.renew(fresh_name("ada"), client, "d").lost == []
+                        me.sync(client, "d")
+        due = ["of the first"] * is_running + ["both"]
+        assert client.plain("d", [0]) == {"list": ["one", *due], "votes": jcrdt.Counter(3)}
+
+
+@needs_library
+def test_the_id_of_another_in_the_generation_before_is_no_own_edit_of_mine(hub: Hub, tmp_path: Path) -> None:
+    """A store that was put back: another one has used its ids there."""
+    path, backup = str(tmp_path / "ada"), str(tmp_path / "backup")
+    with opened(hub) as client:
+        with Store(path, "d", "ada") as store, Replica.stored(store) as me:
+            me.put([0, "list"], ["base"])
+            me.sync(client, "d")
+        shutil.copy(path, backup)
+        with Store(path, "d") as store, Replica.stored(store) as me:
+            me.insert([0, "list", 1], "newer")
+            me.sync(client, "d")
+        hub.desk.renew("d")
+        with Store(backup, "d") as store, Replica.stored(store) as me:
+            me.insert([0, "list", 1], "of the backup")
+            with pytest.raises(Renewed):
+                me.sync(client, "d")
+            assert me.renew(fresh_name("ada"), client, "d") == (1, [])
+            me.sync(client, "d")
+        assert sorted(client.plain("d", [0, "list"])) == ["base", "newer", "of the backup"]
+
+
+@needs_library
+def test_a_new_name_in_a_document_that_is_renewed_meanwhile(hub: Hub, tmp_path: Path) -> None:
+    """Operations of two generations aren't mixed."""
+    path, backup = str(tmp_path / "ada"), str(tmp_path / "backup")
+    with opened(hub) as client:
+        with Store(path, "d", "ada") as store, Replica.stored(store) as me:
+            me.put([0, "list"], ["base"])
+            me.sync(client, "d")
+        shutil.copy(path, backup)
+        with Store(path, "d") as store, Replica.stored(store) as me:
+            me.insert([0, "list", 1], "newer")
+            me.sync(client, "d")
+        with Store(backup, "d") as store, Replica.stored(store) as me:
+            me.insert([0, "list", 1], "of the backup")
+            with pytest.raises(Differs):
+                me.sync(client, "d")
+            generation, name = hub.desk.renew("d"), me.name
+            with pytest.raises(Renewed, match=generation):
+                me.remake(fresh_name("ada"), client, "d")
+            assert me.name == name
+            assert me.renew(fresh_name("ada"), client, "d") == (1, [])
+            me.sync(client, "d")
+        assert sorted(client.plain("d", [0, "list"])) == ["base", "newer", "of the backup"]
+
+
+class Rounds:
+    """Programs with stores of one document that a hub renews: edits, syncs, renewals, copies and kills in any order."""
+
+    def __init__(self, seed: int, hub: Hub, client: Session, folder: Path) -> None:
+        self.dice, self.hub, self.client, self.folder = random.Random(seed), hub, client, folder
+        client.put("d", [0], {"list": [], "votes": jcrdt.Counter(0)})
+        self.programs = [Program(folder / "0"), Program(folder / "1")]
+        self.texts: List[str] = []
+        for it in self.programs:
+            self.sync(it)
+
+    def sync(self, it: Program) -> None:
+        for _ in range(20):
+            try:
+                it.sync(self.client)
+                return
+            except Renewed:
+                assert it.me.renew(fresh_name("me"), self.client, "d").lost == []
+        raise AssertionError("it goes on and on")
+
+    def turn(self, number: int) -> None:
+        it, chance = self.dice.choice(self.programs), self.dice.random()
+        if chance < 0.4:
+            self.texts.append(str(number))
+            it.write(self.texts[-1])
+        elif chance < 0.6:
+            self.sync(it)
+        elif chance < 0.7:
+            self.hub.desk.renew("d")
+        elif chance < 0.8 and len(self.programs) < 5:
+            self.programs.append(it.copied(self.folder / str(len(self.programs))))
+        elif chance < 0.9:
+            self.texts.append(str(number))
+            self.client.insert("d", [0, "list", 0], self.texts[-1])
+            self.client.add("d", [0, "votes"], 1)
+        else:
+            {True: it.close, False: it.kill}[self.dice.random() < 0.5]()
+            it.open()
+
+
+@needs_library
+@pytest.mark.parametrize("seed", range(int(os.environ.get("ROUNDS", "4"))))
+def test_random_rounds_over_generations(hub: Hub, tmp_path: Path, seed: int) -> None:
+    """Nothing is lost, nothing doubled."""
+    with opened(hub) as client:
+        rounds = Rounds(seed, hub, client, tmp_path)
+        for number in range(50):
+            rounds.turn(number)
+        for it in 2 * rounds.programs:
+            rounds.sync(it)
+        due = sorted(rounds.texts), len(rounds.texts)
+        assert state(client, "d", [0]) == due
+        for it in rounds.programs:
+            assert state(it.me) == due
+            it.close()
+
+
+@needs_library
+def test_a_replica_of_another_hub_finds_no_way(hub: Hub) -> None:
+    with opened(hub) as client, Replica("ada-1") as me:
+        me.deliver(["op", [1, "gen2-aaaaaaaaaa-1"], [], [[["m", 0]], "k"], ["assign", 1]])
+        client.assign("d", [0, "k"], 1)
+        with pytest.raises(ValueError, match="d has no generation 2-aaaaaaaaaa at this hub"):
+            me.renew("ada-2", client, "d")
+        assert me.name == "ada-1"
+        with pytest.raises(ValueError, match="is no name of a replica"):
+            me.renew("Ada", client, "d")
+
+
+@needs_library
+def test_by_hand_what_a_later_generation_lacks_is_made_in_a_new_replica(hub: Hub) -> None:
     with opened(hub) as client, Replica("ada-1") as me, Replica("ada-2") as new:
         client.put("d", [0], {"list": ["one", "two", "three"]})
-        me.put([0, "mine"], True)
         me.sync(client, "d")
         client.delete("d", [0, "list", 1])
         for _ in range(2):
-            generation = hub.desk.renew("d")
+            hub.desk.renew("d")
         me.assign([0, "list", 2], "TWO")
-        me.insert([0, "list", 3], "four")
         me.assign([0, "list", 1], "ONE")
-        for _ in range(2):
-            with pytest.raises(Renewed, match=f"d goes on in the generation {generation}"):
-                me.sync(client, "d")
         new.sync(client, "d")
-        made, lost = me.remake_in(new, client.elements_since("d", generation_of(me.front())))
-        assert (made, [it[4] for it in lost]) == (2, [["assign", "ONE"]])
+        count, lost = me.remake_in(new, client.elements_since("d", generation_of(me.front())))
+        assert (count, [it[4] for it in lost]) == (1, [["assign", "ONE"]])
         new.sync(client, "d")
-        assert client.plain("d", [0]) == {"list": ["TWO", "three", "four"], "mine": True}
-        with pytest.raises(Renewed):
-            me.sync(client, "d")
+        assert client.plain("d", [0]) == {"list": ["TWO", "three"]}
 
 
 def test_the_same_with_asyncio(hub: Hub) -> None:
