@@ -13,7 +13,7 @@ from .session import Session, connected
 from .wire import Away, Conflict, Counter, Lost, Refused, Renewed, Size, covers, plain, settled
 from .writes import Writes
 
-__all__ = ["Away", "Conflict", "Counter", "Desk", "DocumentState", "Generation", "Lost", "Refused", "Renewed", "Session", "Size", "StoredLog",
-           "Writes", "connected", "covers", "followed", "followed_file", "front_after", "front_on_disk", "generation_of", "plain", "program",
-           "serving", "settled", "started"]
+__all__ = ["Away", "Conflict", "Counter", "Desk", "DocumentState", "Generation", "Lost", "Refused", "Renewed", "Session", "Size",
+           "StoredLog", "Writes", "connected", "covers", "followed", "followed_file", "front_after", "front_on_disk", "generation_of",
+           "plain", "program", "serving", "settled", "started"]
 __version__ = "1.2.0"

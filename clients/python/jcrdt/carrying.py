@@ -41,7 +41,8 @@ class Made(NamedTuple):
     origin: Operation
 
 
-def carried(log: Iterable[Operation], steps: Sequence[Step], is_there: Callable[[Id], bool], maker_of: Callable[[Id], List[str]]) -> Carried:
+def carried(log: Iterable[Operation], steps: Sequence[Step], is_there: Callable[[Id], bool],
+            maker_of: Callable[[Id], List[str]]) -> Carried:
     """Carries a log over. `is_there` is whether the hub had an operation at the end of the first generation, and `maker_of` says who
     made one: its replica, and the opening of its store where that is known."""
     behind: Dict[Key, Any] = {}

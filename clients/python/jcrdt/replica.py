@@ -463,9 +463,10 @@ class Replica:
 
     def remake_in(self, other: "Replica", elements: Iterable[Any], lines: Optional[Iterable[str]] = None) -> Remade:
         """Makes own edits again in the replica of a new document, whose content `python -m jcrdt renew put` made of this one's, or of a
-        later generation. `elements` has the lines that its --map writes, or pairs of ids, as of `Session.elements_since`. `lines` are operations of this document; where none are given,
-        the own ones that no server has. An element that the new document lacks, or that was deleted there, can't be edited there: that
-        operation is lost. What is behind a deleted element goes behind the one before it. Raises ValueError without lines before a `sync` with a server."""
+        later generation. `elements` has the lines that its --map writes, or pairs of ids, as of `Session.elements_since`. `lines` are
+        operations of this document; where none are given, the own ones that no server has. An element that the new document lacks, or
+        that was deleted there, can't be edited there: that operation is lost. What is behind a deleted element goes behind the one before
+        it. Raises ValueError without lines before a `sync` with a server."""
         old, lost, count = self.operations(), [], 0
         pairs = [wire.decoded(it.encode()) if isinstance(it, str) else it for it in elements if it != ""]
         places = Places({(one[0], one[1]): two for one, two in pairs}, old, other.operations())

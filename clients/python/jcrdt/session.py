@@ -208,7 +208,7 @@ class Session:
     def bind(self, document: str, name: str, cursor: Cursor, element: Id) -> bool:
         """Binds a name to the element of this id in the list at the cursor, and checks that it is that one.
         Returns False if the element isn't there (any more). Raises TimeoutError if others change the list so fast
-        that it isn't met for 10 s."""
+        that it isn't met for 10 s, and Renewed where it is one of a generation of before."""
         return self.run(nested.bind(document, name, cursor, element))
 
     def append(self, document: str, cursor: Cursor, value: Any) -> Id:

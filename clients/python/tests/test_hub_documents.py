@@ -37,8 +37,8 @@ class Hub:
         self.desk = Desk(str(folder))
         self.start()
 
-    def start(self, *options: str) -> None:
-        words = ["node", str(TOP / "clients/hub/hub.mjs"), "--data", str(self.folder), "--program", PROGRAM, "--lines", self.address, *options]
+    def start(self) -> None:
+        words = ["node", str(TOP / "clients/hub/hub.mjs"), "--data", str(self.folder), "--program", PROGRAM, "--lines", self.address]
         self.child = subprocess.Popen(words, stdout=subprocess.PIPE, stderr=subprocess.DEVNULL)
         assert self.child.stdout is not None
         self.address = json.loads(self.child.stdout.readline())[1]
