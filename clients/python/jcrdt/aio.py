@@ -17,14 +17,15 @@ from collections import deque
 from types import TracebackType
 from typing import Any, AsyncIterator, Callable, Deque, Generator, Iterable, List, Literal, Optional, Sequence, Tuple, Type, TypeVar
 
-from . import loading, mending, nested, wire
+from . import generations, loading, mending, nested, wire
+from .generations import Generation
 from .limits import SIGN_SECONDS, USUAL, Limits
 from .line_reader import CHUNK, LineReader, lines_of
 from .replies import Reply, checked_beginning, front_in, id_in, logged_in, page_in, reply_of
 from .session import FORKED
 from .steps import Steps
 from .tagged import tagged
-from .wire import Away, Cursor, Front, Id, Lost, Misbehaved, Operation, Refused, Size, encoded
+from .wire import Away, Cursor, Front, Id, Lost, Misbehaved, Operation, Refused, Renewed, Size, encoded
 
 T = TypeVar("T")
 # After so many replies that are there already other tasks get their turn.
@@ -134,12 +135,17 @@ class Session:
         asked = list(requests)
         found = await self.ask_lines([encoded(request) for request in asked])
         try:
-            return [reply_of(line, request) for request, line in zip(asked, found)]
+            replies = [reply_of(line, request) for request, line in zip(asked, found)]
         except Misbehaved as error:
             self._end(error)
             raise
+        for request, reply in zip(asked, replies):
+            if isinstance(reply, Renewed):
+                reply.document = str(request[1])
+                reply.generation = (await self.history(reply.document))[-1].name
+        return replies
 
-    async def _run(self, steps: Steps[T]) -> T:
+    async def run(self, steps: Steps[T]) -> T:
         """Asks what the steps want, and returns what they found."""
         try:
             requests = next(steps)
@@ -257,7 +263,7 @@ class Session:
 
     async def bind(self, document: str, name: str, cursor: Cursor, element: Id) -> bool:
         """Binds a name to the element of this id in the list at the cursor: see jcrdt.Session.bind."""
-        return await self._run(nested.bind(document, name, cursor, element))
+        return await self.run(nested.bind(document, name, cursor, element))
 
     async def append(self, document: str, cursor: Cursor, value: Any) -> Id:
         """Inserts a value, nested or not, behind the last element of the list at the cursor. Returns its id."""
@@ -267,13 +273,13 @@ class Session:
         """Inserts values behind the last element of the list at the cursor. Returns their ids. Another nested write of
         this session waits meanwhile."""
         async with self._writing:
-            return await self._run(nested.extend(document, cursor, values))
+            return await self.run(nested.extend(document, cursor, values))
 
     async def put(self, document: str, cursor: Cursor, value: Any, only: Optional[Literal["changed"]] = None) -> None:
         """Assigns a nested value, one request for each part, or what differs alone: see jcrdt.Session.put. Another nested
         write of this session waits meanwhile. A task that is cancelled leaves the first part of it there."""
         async with self._writing:
-            await self._run(nested.put(document, cursor, value) if only is None else
+            await self.run(nested.put(document, cursor, value) if only is None else
                             mending.put_changed(document, cursor, value))
 
     # Readings.
@@ -310,7 +316,7 @@ class Session:
     async def load_json(self, document: str, cursor: Cursor, data: Any) -> int:
         """Makes what is at the cursor into a value that `export` gave: see jcrdt.Session.load_json."""
         async with self._writing:
-            return await self._run(loading.load_json(document, cursor, data))
+            return await self.run(loading.load_json(document, cursor, data))
 
     # What servers deliver to each other.
 
@@ -381,8 +387,7 @@ class Session:
 
     async def unsaved(self, document: str, ids: Iterable[Id]) -> List[Id]:
         """Those of the ids that the server doesn't have: see jcrdt.Session.unsaved."""
-        front = await self.front(document)
-        return [it for it in ids if not wire.covers(front, it)]
+        return await self.run(generations.unsaved(document, ids))
 
     async def stored(self, document: str, operation_id: Id) -> None:
         """Waits until the operation is in the server's file: see jcrdt.Session.stored."""
@@ -395,6 +400,29 @@ class Session:
     async def copied(self, document: str, operation_id: Id) -> bool:
         """Whether the server's file has the operation: see jcrdt.Session.copied."""
         return bool((await self.ask("copied", document, operation_id))[0])
+
+    # Which documents there are, at a hub that runs their servers.
+
+    async def create(self, document: str) -> None:
+        """Makes a document: see jcrdt.Session.create."""
+        await self.ask("create", document)
+
+    async def list(self) -> List[str]:
+        """The names of all documents that this client may read, in byte order: see jcrdt.Session.list."""
+        names: List[str] = []
+        while True:
+            [page] = await self.ask("list", names[-1] if names else "")
+            names += page
+            if len(page) < wire.LISTED:
+                return names
+
+    async def history(self, document: str) -> List[Generation]:
+        """The generations of a document; the last of them takes changes: see jcrdt.Session.history."""
+        return generations.generations_in(await self.ask("history", document))
+
+    async def elements_since(self, document: str, generation: str) -> List[Tuple[Id, Id]]:
+        """The elements of a generation of before, and what they are now: see jcrdt.Session.elements_since."""
+        return await self.run(generations.elements_since(document, generation))
 
     async def account(self, document: str) -> int:
         return int((await self.ask("account", document))[0])

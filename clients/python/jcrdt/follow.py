@@ -20,7 +20,9 @@ def followed(address: str, document: str, front: Optional[Front] = None, every: 
     is there. A server is asked every so many seconds, and yields what is logged: a kill may take the last of it
     back, and then its writer may write it again. `followed_file` yields only what is on disk.
 
-    Raises Refused if the document can't be opened."""
+    Raises Refused if the document can't be opened, and Renewed where a hub has renewed it since the front: begin anew
+    without one. What was logged last in the generation before is in `operations("DOCUMENT/GENERATION", front)` of a session
+    that has opened that, if the hub has kept it."""
     known, pause, disk = dict(front or {}), SHORTEST, Disk(document)
     while True:
         try:

@@ -4,10 +4,11 @@ import time
 from typing import Any, Dict, Iterable, List, Optional, Sequence, Set
 
 from . import room, wire
+from .generations import check_of_now
 from .protocol import CHANGES, NUMBERS
 from .replies import Reply, good, id_in
 from .steps import Request, Steps
-from .wire import Cursor, Id, Refused, apart, bare, parts_of
+from .wire import Cursor, Id, Refused, Renewed, apart, bare, parts_of
 
 # How long `bind` tries while others change the list, in seconds.
 BIND_SECONDS = 10.0
@@ -32,13 +33,14 @@ def extend(document: str, cursor: Cursor, values: Sequence[Any]) -> Steps[List[I
 
 def bind_all(document: str, cursor: Cursor, elements: Dict[str, Id]) -> Steps[Set[str]]:
     """Binds names to elements of one list, all at once if nobody changes the document meanwhile, else as `bind` does. Returns the
-    names whose elements aren't there."""
+    names whose elements aren't there. Raises Renewed where one is of a generation of before."""
     front, items = good((yield [["front", document], ["items", document, cursor]]))
     places = {tuple(it): number for number, (it, _) in enumerate(items[0], 1)}
     there = {name: places[tuple(it)] for name, it in elements.items() if tuple(it) in places}
     *bound, now = yield [*(["let", document, name, [*cursor, at]] for name, at in there.items()), ["front", document]]
     if good([now]) == [front]:
         good(bound)
+        yield from check_of_now(document, front[0], [it for name, it in elements.items() if name not in there])
         return set(elements) - set(there)
     gone = set()
     for name, element in elements.items():
@@ -49,13 +51,14 @@ def bind_all(document: str, cursor: Cursor, elements: Dict[str, Id]) -> Steps[Se
 
 def bind(document: str, name: str, cursor: Cursor, element: Id) -> Steps[bool]:
     """Binds a name to the element of this id in the list at the cursor. Returns False if it isn't there. Raises
-    TimeoutError if the list changes so fast that it isn't met for 10 s."""
+    TimeoutError if the list changes so fast that it isn't met for 10 s, and Renewed where it is one of a generation of before."""
     until = time.monotonic() + BIND_SECONDS
     while time.monotonic() < until:
         front, items = good((yield [["front", document], ["items", document, cursor]]))
         places = {tuple(it): number for number, (it, _) in enumerate(items[0], 1)}
         due = places.get(tuple(element))
         if due is None:
+            yield from check_of_now(document, front[0], [element])
             return False
         number: Optional[int] = due
         while number is not None and time.monotonic() < until:
@@ -115,7 +118,12 @@ class Writer:
             [[items]] = good((yield [["items", self.document, steady]]))
             if not items:
                 return (yield from self.insert_all(steady, [*steady, 0], 1, values, 0))
-            if (yield from bind(self.document, end, steady, items[-1][0])):
+            try:
+                is_there = yield from bind(self.document, end, steady, items[-1][0])
+            except Renewed:
+                # Nothing is changed yet, and the place is another one's now.
+                continue
+            if is_there:
                 return (yield from self.insert_all(steady, [end], len(items) + 1, values, 0))
 
     def reserve(self, names: Iterable[str]) -> Steps[None]:

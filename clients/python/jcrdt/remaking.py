@@ -2,11 +2,13 @@
 
 Copies of one store have the same operations. So what was restored from a store is made again under a name that is made of what it
 says: copies make the same of it, and the server has it once. It is sent while it is made, one by one, since copies may go on in
-different ways: where one is refused, another copy was first, and what follows gets another name. What was edited since the store was
-opened is nobody else's: it goes under the new name of this replica. The JavaScript package does the same, by the same names.
+different ways: where one is refused, another copy was first, and what follows gets another name. So is what was edited since the store
+was opened, where a store has it, of which copies may be made meanwhile: the word of the opening is in its name, so that what two have
+edited alike stays two. Else it is nobody else's, and goes under the new name of this replica. The JavaScript package does the same, by
+the same names.
 """
 
-from typing import TYPE_CHECKING, Any, Callable, Dict, Iterator, List, NamedTuple, Optional, Tuple
+from typing import TYPE_CHECKING, AbstractSet, Any, Callable, Dict, Iterator, List, NamedTuple, Optional, Tuple
 
 from . import wire
 from .protocol import NAME_USED_TWICE
@@ -32,12 +34,16 @@ class Remade(NamedTuple):
 
 
 class How(NamedTuple):
-    """The new name; from which own counter on others have the ids; up to which own counter copies of the store may have operations;
-    and whether the server may take what is made again."""
+    """The new name; from which own counter on others have the ids; up to which own counter copies of the store may have operations, and up
+    to which the server's are this store's; the own ones that it has logged from here; the word of the opening in which an own one was
+    made; and whether the server may take what is made again."""
 
     name: str
     forked: Optional[int]
     stored: int
+    sure: int
+    logged: AbstractSet[int]
+    session_of: Callable[[int], str]
     may_send: bool
 
 
@@ -120,10 +126,14 @@ class Remaking:
     def _take_own(self, operation: Operation) -> None:
         counter, replica = operation[1]
         is_before = not self._is_forked and (self._how.forked is None or counter < self._how.forked)
-        if is_before and self._is_there(operation) and not self._is_of_another(operation):
+        if is_before and self._is_there(operation) and (counter <= self._how.sure or not self._is_of_another(operation)):
             self._good[replica] = counter
             return
         self._is_forked = True
+        if counter in self._how.logged and self._is_there(operation):
+            # It was logged behind another's of this name.
+            self.ids[counter, replica], self._made[replica] = operation[1], counter
+            return
         made = self._made_shared(operation) or self._made_own(operation)
         if made is None:
             self.lost.append(operation)
@@ -163,7 +173,9 @@ class Remaking:
         """Makes it again as each copy of the store does, where copies may have it."""
         if operation[1][0] > self._how.stored or self._how.name in self._made or not self._is_makeable(operation):
             return None
-        fresh = name_of("again", wire.encoded([operation[1], self._renamed(operation, "")]).decode())
+        session = self._how.session_of(operation[1][0])
+        text = wire.encoded([operation[1], self._renamed(operation, ""), *([session] if session else [])])
+        fresh = name_of("again", text.decode())
         for name in filter(None, (self._shared, fresh)):
             again = self._renamed(operation, name)
             is_there = self._is_there(again)

@@ -13,16 +13,20 @@ import os
 import platform
 import threading
 from ctypes import POINTER, Structure, byref, c_bool, c_char_p, c_size_t, c_uint64, c_void_p
-from typing import Any, Dict, Iterable, List, Optional, Sequence, Tuple
+from typing import Any, Callable, Dict, Iterable, List, Optional, Sequence, Tuple
 
 from . import wire
 from .again import Places
+from .carrying import carried
+from .copies import Clock, Own, is_change
+from .generations import generation_of
+from .later import Later
 from .protocol import NUMBERS
 from .remaking import ROUNDS, How, Remade, Remaking
 from .session import Session
 from .store import Store, fresh_name
 from .syncing import Exchange
-from .wire import Cursor, Front, Id, Lost, Operation, Refused
+from .wire import Cursor, Front, Id, Lost, Operation, Refused, Renewed, covers
 
 # The first room for the text of an answer, in bytes.
 ROOM = 65_536
@@ -95,13 +99,13 @@ class Replica:
         self._store: Optional[Store] = None
         # Of `stored`: the lines of the store that can't be used.
         self.unread: List[str] = []
-        # At a server's document the server's own operations up to this counter were the same.
-        self._same: Dict[Tuple[Optional[str], str], int] = {}
+        # For tests: what waiting goes by.
+        self.clock = Clock()
         self._syncing = threading.Lock()
         self._open(name.encode(), "".join(f"{line}\n" for line in operations).encode())
+        self._own = Own(0)
         self._listing, self._listed = threading.Lock(), self.front()
-        # Own operations up to these counters were sent, or may have been; and are in copies of a store, too, if there are any.
-        self._sent = self._restored = self._listed.get(name, 0)
+        self._own = Own(self._listed.get(name, 0))
 
     @classmethod
     def stored(cls, store: Store, library: Optional[ctypes.CDLL] = None) -> "Replica":
@@ -120,8 +124,14 @@ class Replica:
             replica = cls(fresh_name(store.name.rpartition("-")[0] or store.name), lines, library)
         if unread or lines != store.lines:
             store.replace(replica.name, lines)
-        replica._store, replica.unread = store, unread
+        replica._keep_in(store)
+        replica.unread = unread
         return replica
+
+    def _keep_in(self, store: Store) -> None:
+        self._store = store
+        self._own = Own(self._own.restored, True, store.is_new, store.sessions)
+        self._own.is_doubtful = store.is_doubtful
 
     def _open(self, name: bytes, lines: bytes) -> None:
         fault = _Fault()
@@ -165,6 +175,12 @@ class Replica:
         made one. Raises MemoryError, ValueError where it is closed, and Lost in another process."""
         self._check_process()
         with self._lock:
+            if self._own.is_doubtful and is_change(_request_of(line)):
+                self.say()
+            return self._answer(line)
+
+    def _answer(self, line: bytes) -> Tuple[bytes, Optional[str]]:
+        with self._lock:
             if not self._handle.is_open:
                 raise ValueError("the replica is closed")
             length = self._library.jcrdt_ask(byref(self._handle), line, len(line), self._room, len(self._room))
@@ -178,6 +194,22 @@ class Replica:
         if made:
             self._made.append(made.decode())
         return reply, made.decode() or None
+
+    @property
+    def is_doubtful(self) -> bool:
+        """Whether the store wasn't closed, so that another program may go on with it, and nobody was told."""
+        return self._own.is_doubtful
+
+    def say(self) -> None:
+        """Says, where the store wasn't closed, which operations its program may have, too (see copies.py). It is to come right behind
+        them, and before any of them is sent."""
+        with self._lock:
+            if self._store is None or not self._own.is_doubtful:
+                return
+            key = self._own.key(self.name, self._store.session)
+            _, made = self._answer(wire.encoded(["delete", [0, key]]))
+            if made is not None:
+                self._own.is_doubtful, self._own.said = False, int(wire.decoded(made.encode())[1][0])
 
     def ask(self, *request: Any) -> List[Any]:
         """What follows the word of the reply to a request of docs/FORMATS.md, without the document's name: `ask("keys", [0])`. A
@@ -209,7 +241,7 @@ class Replica:
         if self._store is None:
             raise ValueError("this replica has no store: Replica.stored opens one that has")
         with self._listing:
-            before = dict(self._listed)
+            before, has_said = dict(self._listed), not self._own.is_doubtful
             try:
                 lines = self._list()
                 if lines:
@@ -217,6 +249,8 @@ class Replica:
             except BaseException:
                 self._listed = before
                 raise
+            if has_said:
+                self._store.is_doubtful = False
 
     def save_if_stored(self) -> None:
         if self._store is not None:
@@ -325,17 +359,19 @@ class Replica:
         saves before anything is sent. Without one store what `logged` gives before: a replica that sent operations and lost them
         can't use its name again. One thread does it at a time.
 
+        A copy of the store that was made while it was open may have sent operations of this replica: it knows them for its own. Where
+        such a copy may be about to send more, it waits, up to 5 s behind the last one.
+
         Raises Differs where another store has used its name, as a copy of this one or an older one: nothing was exchanged then.
         Otherwise it goes on past what is refused, here or there, and raises that at last: Differs where two have one name, else
-        Refused. Raises what `Session` raises, too; what was exchanged by then stays, and a later call goes on."""
+        Refused. Raises what `Session` raises, too; what was exchanged by then stays, and a later call goes on. That is Renewed where a
+        hub has renewed the document: `renew` goes on there."""
         self.save_if_stored()
         with self._syncing:
-            place = (client.address, document)
-            work = Exchange(self, client, document, self._same.get(place, 0), self._sent)
+            work = Exchange(self, client, document, self._own)
             try:
                 work.run()
             finally:
-                self._same[place], self._sent = work.same, work.sent
                 self.save_if_stored()
         return work.came, work.went
 
@@ -351,9 +387,15 @@ class Replica:
         with self._syncing:
             may_send, turn = True, 1
             while True:
-                how = How(name, Exchange(self, client, document, 0, self._sent).forked_at(), self._restored, may_send)
+                own, forked = self._own, Exchange(self, client, document, self._own).forked_at()
+                # What is in the file may be in copies of it.
+                stored = self.front().get(self.name, 0) if own.is_filed else own.restored
+                how = How(name, forked, stored, own.sure, own.logged, own.session_of, may_send)
                 log = (wire.encoded(it).decode() for it in client.operations(document))
                 with Replica(fresh_name("scratch"), log, self._library) as scratch:
+                    now = generation_of(scratch.front())
+                    if scratch.front() and now != generation_of(self.front()):
+                        raise Renewed(document, now)
                     remaking = Remaking(self, scratch, how)
                     if remaking.send(client, document):
                         return self._go_on(name, remaking, scratch)
@@ -362,21 +404,69 @@ class Replica:
     def _go_on(self, name: str, remaking: Remaking, scratch: "Replica") -> Remade:
         """Uses what was made again. Nothing is edited meanwhile."""
         with self._listing, self._lock:
-            report, lines = remaking.run(), scratch.lines()
-            new = Replica(name, lines, self._library)
-            if self._store is not None:
-                self._store.replace(name, lines)
-            self._library.jcrdt_close(byref(self._handle))
-            self._handle, new._handle = new._handle, _Handle()
-            self.name, self._made, self._listed = name, [], self.front()
-            self._same, self._sent, self._restored = {}, 0, 0
+            report = remaking.run()
+            self._use(name, scratch.lines())
         return report
 
+    def _use(self, name: str, lines: List[str]) -> None:
+        """Goes on under a new name, with this log."""
+        new = Replica(name, lines, self._library)
+        if self._store is not None:
+            self._store.replace(name, lines)
+        self._library.jcrdt_close(byref(self._handle))
+        self._handle, new._handle = new._handle, _Handle()
+        self.name, self._made, self._listed = name, [], self.front()
+        sessions = self._store.sessions if self._store is not None else ()
+        self._own = Own(0, self._store is not None, True, sessions)
+
+    def renew(self, name: str, client: Session, document: str) -> Remade:
+        """Goes on under a new name in the generation that the document is in now, after `sync` has given Renewed. Takes that one's log,
+        and own edits that the hub lacked when their generation ended, made again: over all generations since, and once, also by copies
+        of the store, or by a program that was killed meanwhile. `lost` has those that aren't made: of elements that were deleted
+        meanwhile, and assignments and deletions of what others have changed meanwhile, unless those generations aren't kept any more.
+        A replica of a store writes the file anew: PATH.old keeps it as it was. Then `sync`. Raises what `sync` raises, and ValueError
+        where the hub has no such generation, or for a name that is none; nothing was changed here then."""
+        if not wire.NAME.match(name):
+            raise ValueError(f"{name!r} is no name of a replica: 1 to 32 of a-z, 0-9, -")
+        self.save_if_stored()
+        with self._syncing:
+            later = Later(client, document, self.front())
+            forked = self._forked_before(client, later.past)
+            steps, log = later.found(self)
+            if not steps:
+                # It is that generation.
+                return Remade(0, [])
+            with self._listing, self._lock:
+                is_there: Callable[[Id], bool] = lambda it: covers(steps[0].end, it) and not self._is_forked(it, forked)
+                found = carried(self.operations(), steps, is_there, self._maker_of)
+                there = wire.front_of(log)
+                again = [it for it in found.operations if not covers(there, it[1])]
+                self._use(name, [wire.encoded(it).decode() for it in [*log, *again]])
+        return Remade(len(again), found.lost)
+
+    def _maker_of(self, operation_id: Id) -> List[str]:
+        """Who made an operation: its replica, and the opening of the store, where that is known."""
+        counter, replica = operation_id
+        session = self._own.session_of(counter) if replica == self.name else ""
+        return [replica, session] if session else [replica]
+
+    def _is_forked(self, operation_id: Id, forked: Optional[int]) -> bool:
+        """Whether another has the id of an own operation."""
+        return forked is not None and operation_id[1] == self.name and bool(operation_id[0] >= forked)
+
+    def _forked_before(self, client: Session, past: str) -> Optional[int]:
+        """From which own counter on a generation has operations of another of this name; none where it isn't kept."""
+        try:
+            return Exchange(self, client, past, self._own).forked_at()
+        except Refused:
+            return None
+
     def remake_in(self, other: "Replica", elements: Iterable[Any], lines: Optional[Iterable[str]] = None) -> Remade:
-        """Makes own edits again in the replica of a new document, whose content `python -m jcrdt renew put` made of this one's.
-        `elements` has the lines that its --map writes, or pairs of ids. `lines` are operations of this document; where none are given,
-        the own ones that no server has. An element that the new document lacks, or that was deleted there, can't be edited there: that
-        operation is lost. What is behind a deleted element goes behind the one before it. Raises ValueError without lines before a `sync` with a server."""
+        """Makes own edits again in the replica of a new document, whose content `python -m jcrdt renew put` made of this one's, or of a
+        later generation. `elements` has the lines that its --map writes, or pairs of ids, as of `Session.elements_since`. `lines` are
+        operations of this document; where none are given, the own ones that no server has. An element that the new document lacks, or
+        that was deleted there, can't be edited there: that operation is lost. What is behind a deleted element goes behind the one before
+        it. Raises ValueError without lines before a `sync` with a server."""
         old, lost, count = self.operations(), [], 0
         pairs = [wire.decoded(it.encode()) if isinstance(it, str) else it for it in elements if it != ""]
         places = Places({(one[0], one[1]): two for one, two in pairs}, old, other.operations())
@@ -394,10 +484,18 @@ class Replica:
         return Remade(count, lost)
 
     def _unsent(self, operations: Sequence[Operation]) -> List[Operation]:
-        if not self._same:
+        if not self._own.same:
             raise ValueError("sync with the old document's server first")
-        same = max(self._same.values())
+        same = max(self._own.same.values())
         return [it for it in operations if it[1][1] == self.name and it[1][0] > same]
+
+
+def _request_of(line: bytes) -> Any:
+    """The request of a line, None for what is none."""
+    try:
+        return wire.decoded(line)
+    except ValueError:
+        return None
 
 
 def fitting(lines: Sequence[str], library: Optional[ctypes.CDLL] = None) -> Tuple[List[str], List[str]]:

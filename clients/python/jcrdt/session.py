@@ -20,15 +20,16 @@ import socket
 import threading
 import time
 from types import TracebackType
-from typing import Any, Deque, Iterable, Iterator, List, Literal, Optional, Sequence, Type, TypeVar
+from typing import Any, Deque, Iterable, Iterator, List, Literal, Optional, Sequence, Tuple, Type, TypeVar
 
-from . import loading, mending, nested, wire
+from . import generations, loading, mending, nested, wire
+from .generations import Generation
 from .limits import SIGN_SECONDS, USUAL, Limits
 from .replies import Reply, checked_beginning, front_in, id_in, logged_in, page_in, reply_of
 from .steps import Steps
 from .stream import Stream
 from .tagged import tagged
-from .wire import Away, Cursor, Front, Id, Lost, Misbehaved, Operation, Refused, Size, encoded
+from .wire import Away, Cursor, Front, Id, Lost, Misbehaved, Operation, Refused, Renewed, Size, encoded
 
 T = TypeVar("T")
 FORKED = "it was opened in another process: connect in this one"
@@ -134,12 +135,17 @@ class Session:
         asked = list(requests)
         found = self.answers([encoded(request) for request in asked])
         try:
-            return [reply_of(line, request) for request, line in zip(asked, found)]
+            replies = [reply_of(line, request) for request, line in zip(asked, found)]
         except Misbehaved as error:
             self.broken = str(error)
             raise
+        for request, reply in zip(asked, replies):
+            if isinstance(reply, Renewed):
+                reply.document = str(request[1])
+                reply.generation = self.history(reply.document)[-1].name
+        return replies
 
-    def _run(self, steps: Steps[T]) -> T:
+    def run(self, steps: Steps[T]) -> T:
         """Asks what the steps want, and returns what they found. Other threads wait meanwhile."""
         self._check_process()
         with self.lock:
@@ -202,8 +208,8 @@ class Session:
     def bind(self, document: str, name: str, cursor: Cursor, element: Id) -> bool:
         """Binds a name to the element of this id in the list at the cursor, and checks that it is that one.
         Returns False if the element isn't there (any more). Raises TimeoutError if others change the list so fast
-        that it isn't met for 10 s."""
-        return self._run(nested.bind(document, name, cursor, element))
+        that it isn't met for 10 s, and Renewed where it is one of a generation of before."""
+        return self.run(nested.bind(document, name, cursor, element))
 
     def append(self, document: str, cursor: Cursor, value: Any) -> Id:
         """Inserts a value, nested or not, behind the last element of the list at the cursor, as `put` writes it.
@@ -212,7 +218,7 @@ class Session:
 
     def extend(self, document: str, cursor: Cursor, values: Sequence[Any]) -> List[Id]:
         """Inserts values behind the last element of the list at the cursor. Returns their ids. Raises as `put`."""
-        return self._run(nested.extend(document, cursor, values))
+        return self.run(nested.extend(document, cursor, values))
 
     def put(self, document: str, cursor: Cursor, value: Any, only: Optional[Literal["changed"]] = None) -> None:
         """Assigns a nested value: {} or [] first, and then what is in it, one request each. It takes what
@@ -230,7 +236,7 @@ class Session:
         as its front and the counters of its operations say: see room.py. So nothing is left half made but where
         others take the room meanwhile, or the connection fails: after such a Refused or Lost the first part of the
         value is there."""
-        self._run(nested.put(document, cursor, value) if only is None else mending.put_changed(document, cursor, value))
+        self.run(nested.put(document, cursor, value) if only is None else mending.put_changed(document, cursor, value))
 
     # Readings.
 
@@ -271,7 +277,7 @@ class Session:
 
         Raises ValueError for what is no such value, or a cursor with an index or a name, and Refused (18, 19) where the
         document has no room, both before anything is changed. Otherwise as `put` with only="changed"."""
-        return self._run(loading.load_json(document, cursor, data))
+        return self.run(loading.load_json(document, cursor, data))
 
     # What servers deliver to each other.
 
@@ -306,7 +312,8 @@ class Session:
     def watch(self, document: str, seconds: float = 0.5, timeout: Optional[float] = None) -> Iterator[Front]:
         """Yields the front at once, and again each time that it has changed; with a timeout until it hasn't for so many
         seconds. A hub says when that is. A server is asked every so many seconds, and each question is one of the
-        1,000,000 lines of a session. Between two yields the session may be used."""
+        1,000,000 lines of a session. Between two yields the session may be used. Where a hub renews the document, the next
+        front is that of the next generation: `generation_of(front)` says of which one it is."""
         pushed = self._is_pushed(document)
         last: Optional[Front] = None
         until = float("inf")
@@ -345,9 +352,9 @@ class Session:
 
     def unsaved(self, document: str, ids: Iterable[Id]) -> List[Id]:
         """Those of the ids that the server doesn't have. `applied` says that an operation is logged. It is in the
-        file later, and a kill in between loses it: see `Writes`."""
-        front = self.front(document)
-        return [it for it in ids if not wire.covers(front, it)]
+        file later, and a kill in between loses it: see `Writes`. What a generation of before had at its end counts as
+        there: the document shows it."""
+        return self.run(generations.unsaved(document, ids))
 
     def stored(self, document: str, operation_id: Id) -> None:
         """Waits until the operation is in the server's file. Only a hub answers that, and refuses with 104 if it
@@ -361,6 +368,40 @@ class Session:
     def copied(self, document: str, operation_id: Id) -> bool:
         """Whether the server's file has the operation of this id now. Servers before 1.2.0 refuse it with 2."""
         return bool(self.ask("copied", document, operation_id)[0])
+
+    # Which documents there are, at a hub that runs their servers.
+
+    def create(self, document: str) -> None:
+        """Makes a document, which isn't open by that: its server is started once somebody opens it. A name has 1 to 32 of
+        a-z, 0-9, -.
+
+        Raises Refused, and makes none: 105 (there-already) where there is one of this name, 103 (not-allowed) where this
+        client may not, 2 (bad-request) for what is no name, and by a server and a hub that has one. Raises Away where the
+        hub has no room for more, or its disk is full."""
+        self.ask("create", document)
+
+    def list(self) -> List[str]:
+        """The names of all documents that this client may read, in byte order, asking for 1,000 at a time. One that is
+        made or renamed meanwhile may be in it or not. Raises Refused: 103 where this client may not ask that, 2 by a server
+        and a hub that has one."""
+        names: List[str] = []
+        while True:
+            [page] = self.ask("list", names[-1] if names else "")
+            names += page
+            if len(page) < wire.LISTED:
+                return names
+
+    def history(self, document: str) -> List[Generation]:
+        """The generations of a document that is open; the last of them takes changes. One of before is opened as
+        DOCUMENT/GENERATION and only read, if the hub has kept it: a change of it is refused by 103. Raises Refused: 5
+        (not-open), and 2 by a server and a hub that has one."""
+        return generations.generations_in(self.ask("history", document))
+
+    def elements_since(self, document: str, generation: str) -> List[Tuple[Id, Id]]:
+        """The elements that a generation of before showed at its end, and what they are now, over all generations since:
+        pairs of ids, as `Replica.remake_in` takes them. Those that were deleted since aren't in it. Raises ValueError where
+        the document, which is open, has no such generation, and Refused as `history`."""
+        return self.run(generations.elements_since(document, generation))
 
     def account(self, document: str) -> int:
         return int(self.ask("account", document)[0])

@@ -4,8 +4,10 @@
         me.put([0, "title"], "Plan")
         me.save()               # returns once it is on disk
 
-One store at a time has a file, whatever name or link leads there: a second one raises Busy, in this process or in another. The
-system gives the lock back when the process ends, also by a kill. A program in JavaScript doesn't see this lock, nor this one that.
+A tab behind the names says that a program has the file open, a space that it was closed. A line `["session",WORD]` is before what
+was made in one opening. One store at a time has a file, whatever name or link leads there: a second one raises Busy, in this process or
+in another. The system gives the lock back when the process ends, also by a kill. A program in JavaScript doesn't see this lock, nor
+this one that.
 """
 
 import contextlib
@@ -16,14 +18,17 @@ import secrets
 import stat
 import threading
 import weakref
-from typing import List, NamedTuple, Optional, Sequence, Tuple
+from typing import Iterator, List, NamedTuple, Optional, Sequence, Tuple
 
+from .copies import Session, counter_of, sessions_among
 from .replaced_file import sync_folder
 from .wire import NAME, encoded
 
 HEAD = b'["replica","'
-# How a line begins by which a program in JavaScript says that it opened the file, and edited.
+# How a line begins by which a program says that it opened the file, and edited.
 SESSION = '["session",'
+# The marks behind the names.
+OPEN, CLOSED = b"\t", b" "
 
 
 class Busy(OSError):
@@ -32,18 +37,26 @@ class Busy(OSError):
 
 class Parts(NamedTuple):
     """What a file has: the names of replica and document, the lines of operations, others, and the size of all in bytes. A last
-    line without an end was cut off in writing: it was never sent, and is in none."""
+    line without an end was cut off in writing: it was never sent, and is in none. `mark_at` is the place of the mark, None in a file of
+    an older package; `is_open` is whether that says so."""
 
     name: Optional[str]
     document: Optional[str]
     lines: List[str]
     unread: List[str]
     size: int
+    sessions: List[Session]
+    mark_at: Optional[int]
+    is_open: bool
 
 
 class Store:
     """The file of a replica, locked. `name` is the replica's, which this store alone has while it is open. `lines` are the
-    operations that it had when it was opened, and `unread` other lines. Threads may share it. After a fork it is the parent's."""
+    operations that it had when it was opened, and `unread` other lines. Threads may share it. After a fork it is the parent's.
+
+    `is_new` is whether the name is of this opening. `is_doubtful` is whether the file wasn't closed: its program was killed, or goes on
+    with what this is a copy of. So it stays until the replica has said so (see copies.py). `sessions` has the openings with edits, and
+    `session` is the word of this one."""
 
     def __init__(self, path: str, document: str, word: str = "replica") -> None:
         """Opens the store at a path, and makes it where there is none: then `word` and a random part are the replica's name. A last
@@ -53,6 +66,9 @@ class Store:
         self._lock, self._process = threading.RLock(), os.getpid()
         self._file = _locked(self.path)
         self._size, self._has_more = 0, False
+        self._mark_at: Optional[int] = None
+        self.session, self._is_said = fresh_name("at"), False
+        self.is_new = self.is_doubtful = False
         _STORES.add(self)
         try:
             self._read(word)
@@ -72,13 +88,16 @@ class Store:
             raise ValueError(f"{self.path} is no file of a replica")
         if found.name is not None and found.document != self.document:
             raise ValueError(f"{self.path} has the document {found.document}, not {self.document}")
-        self.name = found.name or fresh_name(word)
-        self.lines, self.unread = found.lines, found.unread
-        if found.name is None:
-            self.replace(self.name, self.lines)
-        else:
-            self._size, self._has_more = found.size, True
-            self._cut()
+        self.name, self.is_new = found.name or fresh_name(word), found.name is None
+        self.lines, self.unread, self.is_doubtful = found.lines, found.unread, found.is_open
+        last = max((counter_of(line, self.name) for line in self.lines), default=0)
+        self.sessions = [*found.sessions, (last, self.session)]
+        if found.mark_at is None:
+            self._replace(self.name, self.lines, found.name is None or bool(found.unread))
+            return
+        self._size, self._has_more, self._mark_at = found.size, True, found.mark_at
+        self._cut()
+        _write_all(self._file, OPEN, self._mark_at)
 
     def __del__(self) -> None:
         if hasattr(self, "_file"):
@@ -89,9 +108,14 @@ class Store:
         if self._process != os.getpid():
             return
         with self._lock:
-            if self._file >= 0:
-                _give_back(self._file)
-                self._file = -1
+            if self._file < 0:
+                return
+            if self._mark_at is not None:
+                # Where that fails it is as after a kill.
+                with contextlib.suppress(OSError):
+                    _write_all(self._file, OPEN if self.is_doubtful else CLOSED, self._mark_at)
+            _give_back(self._file)
+            self._file = -1
 
     def _check(self) -> None:
         if self._process != os.getpid():
@@ -105,7 +129,8 @@ class Store:
         with self._lock:
             self._check()
             self._cut()
-            data = "".join(f"{line}\n" for line in lines).encode()
+            session = [] if self._is_said else [_session_line(self.session)]
+            data = "".join(f"{line}\n" for line in [*session, *lines]).encode()
             self._has_more = True
             try:
                 _write_all(self._file, data, self._size)
@@ -113,7 +138,7 @@ class Store:
             except BaseException:
                 self._cut()
                 raise
-            self._size, self._has_more = self._size + len(data), False
+            self._size, self._has_more, self._is_said = self._size + len(data), False, True
 
     def _cut(self) -> None:
         """Removes what is behind the whole lines."""
@@ -125,26 +150,47 @@ class Store:
         """Goes on under another name, with these lines in place of all: whole or not at all. What was there stays as PATH.old, or
         PATH.old-2 and so on."""
         self._check()
-        data = b"".join([encoded(["replica", name, self.document]), b"\n", *(f"{line}\n".encode() for line in lines)])
         with self._lock:
-            new = os.open(f"{self.path}.new", os.O_RDWR | os.O_CREAT | os.O_TRUNC | os.O_CLOEXEC, 0o666)
+            before = self.sessions, self._is_said
+            if name != self.name:
+                self.sessions, self._is_said = [(0, self.session)], True
             try:
-                fcntl.flock(new, fcntl.LOCK_EX | fcntl.LOCK_NB)
-                os.fchmod(new, stat.S_IMODE(os.fstat(self._file).st_mode))
-                _write_all(new, data, 0)
-                os.fsync(new)
-                if os.fstat(self._file).st_size:
-                    _keep_old(self.path)
-                os.rename(f"{self.path}.new", self.path)
+                self._replace(name, lines, True)
             except BaseException:
-                os.close(new)
-                with contextlib.suppress(FileNotFoundError):
-                    os.remove(f"{self.path}.new")
+                self.sessions, self._is_said = before
                 raise
-            _give_back(self._file)
-            self._file, self._size, self._has_more = new, len(data), False
-            self.name = name
-            sync_folder(os.path.dirname(self.path))
+            if name != self.name:
+                self.name, self.is_new, self.is_doubtful = name, True, False
+
+    def _replace(self, name: str, lines: Sequence[str], keeps_old: bool) -> None:
+        head = encoded(["replica", name, self.document])
+        data = b"".join([head, OPEN, b"\n", *(f"{line}\n".encode() for line in self._with_sessions(name, lines))])
+        new = os.open(f"{self.path}.new", os.O_RDWR | os.O_CREAT | os.O_TRUNC | os.O_CLOEXEC, 0o666)
+        try:
+            fcntl.flock(new, fcntl.LOCK_EX | fcntl.LOCK_NB)
+            os.fchmod(new, stat.S_IMODE(os.fstat(self._file).st_mode))
+            _write_all(new, data, 0)
+            os.fsync(new)
+            if keeps_old and os.fstat(self._file).st_size:
+                _keep_old(self.path)
+            os.rename(f"{self.path}.new", self.path)
+        except BaseException:
+            os.close(new)
+            with contextlib.suppress(FileNotFoundError):
+                os.remove(f"{self.path}.new")
+            raise
+        _give_back(self._file)
+        self._file, self._size, self._has_more, self._mark_at = new, len(data), False, len(head)
+        sync_folder(os.path.dirname(self.path))
+
+    def _with_sessions(self, name: str, lines: Sequence[str]) -> Iterator[str]:
+        """The lines, and where openings began that have edited."""
+        left = self.sessions[:None if self._is_said else -1]
+        for line in lines:
+            while left and left[0][0] < counter_of(line, name):
+                yield _session_line(left.pop(0)[1])
+            yield line
+        yield from (_session_line(word) for _, word in left)
 
 
 # The stores of this process.
@@ -175,12 +221,30 @@ def parts_of(data: bytes) -> Optional[Parts]:
     size = data.rfind(b"\n") + 1
     first, *rest = data[:size].decode(errors="replace").split("\n")
     name, document = _head_of(first)
-    found = [line for line in (rest if name else [first, *rest]) if line and not line.startswith(SESSION)]
-    lines = [line for line in found if _is_operation(line)]
+    lines: List[str] = []
+    unread: List[str] = []
+    words: List[Tuple[int, str]] = []
+    for line in filter(None, rest if name else [first, *rest]):
+        word = _session_of(line)
+        if word is not None:
+            words.append((len(lines), word))
+        else:
+            (lines if _is_operation(line) else unread).append(line)
     # The first line may have been cut off, too.
     if not name and not lines and (size or not HEAD.startswith(data[:len(HEAD)])):
         return None
-    return Parts(name, document, lines, [line for line in found if not _is_operation(line)], size)
+    mark_at = data.index(b"\n") - 1 if name and first.endswith(("\t", " ")) else None
+    return Parts(name, document, lines, unread, size, sessions_among(lines, name or "", words), mark_at, first.endswith("\t"))
+
+
+def _session_line(word: str) -> str:
+    return encoded(["session", word]).decode()
+
+
+def _session_of(line: str) -> Optional[str]:
+    """The word of a line that says that the store was opened, and edited."""
+    value = _value_of(line) if line.startswith(SESSION) else None
+    return value[1] if isinstance(value, list) and len(value) > 1 and isinstance(value[1], str) else None
 
 
 def _head_of(line: str) -> Tuple[Optional[str], Optional[str]]:

@@ -1,8 +1,9 @@
 """The exchange of a replica with a server. It is sure at first that both mean the same by the replica's own ids."""
 
 from itertools import zip_longest
-from typing import TYPE_CHECKING, Iterator, List, Optional, Tuple
+from typing import TYPE_CHECKING, Iterator, List, NamedTuple, Optional, Tuple
 
+from .copies import Own
 from .protocol import NAME_USED_TWICE, NUMBERS
 from .session import Session
 from .wire import Front, Id, Lost, Operation, Refused
@@ -32,36 +33,80 @@ class Differs(Exception):
         return f"from {self.counter} on the server has other operations of {self.replica} than are here: two have this name"
 
 
-class Exchange:
-    """One exchange. `came` and `went` are how many operations were logged, here and there. Up to `same` the server's own operations
-    are known to be the same, and own ones up to `sent` were sent, or may have been."""
+class Compared(NamedTuple):
+    """The server's operations of the own name beside those that are here: up to which counter they are the same, the first one that
+    differs, the first one that wasn't sent from here, and up to which one a copy of the store says that it has them."""
 
-    def __init__(self, replica: "Replica", client: Session, document: str, same: int, sent: int) -> None:
+    same: int
+    differs: Optional[int]
+    unsent: Optional[int]
+    copied: int
+
+
+class Exchange:
+    """One exchange. `came` and `went` are how many operations were logged, here and there."""
+
+    def __init__(self, replica: "Replica", client: Session, document: str, own: Own) -> None:
         self.replica, self.client, self.document, self.name = replica, client, document, replica.name
-        self.same, self.sent = same, sent
+        self.own, self.place = own, (client.address, document)
         self.came = self.went = 0
+        # Whether the server has logged an own operation in this exchange; and whether another program sends such ones meanwhile.
+        self.is_logging = self.is_disturbed = False
         self.refused: List[Tuple[Id, Refused]] = []
 
     def run(self) -> None:
         self.client.open(self.document)
-        theirs = self.client.front(self.document)
-        self.check_own(theirs)
-        self.take(theirs)
-        self.give(theirs)
-        self.check_given()
+        is_done = False
+        while not is_done:
+            self.is_disturbed, self.refused = False, []
+            theirs = self.client.front(self.document)
+            self.check_own(theirs)
+            if self.replica.is_doubtful and theirs.get(self.name, 0) < self.own.restored:
+                self.replica.say()
+            self.take(theirs)
+            self.give(theirs)
+            is_done = not self.is_disturbed and self.has_all()
 
     def check_own(self, theirs: Front) -> None:
-        """Raises Differs, unless the server's operations of the own name are those that are here. It compares the last one that was
-        the same before, and all behind it."""
+        """Raises Differs, unless the server's operations of the own name are those of this replica: that were sent from here, or by a
+        copy of its store that was made while it was open. Waits while such a copy may be about to send more."""
+        while True:
+            found = self.compared(theirs)
+            is_ours = self.own.is_ours and found.same > self.own.restored
+            sure = found.same if is_ours else min(found.same, found.copied)
+            self.own.sure = max(sure, self.own.sure)
+            if sure > self.own.sent:
+                self.own.sent, self.own.ours = sure, max(sure, self.own.ours)
+            self.own.same.setdefault(self.place, 0)
+            if theirs.get(self.name, 0):
+                self.own.same[self.place] = min(found.same, self.own.sent)
+            if found.same <= self.own.sent and found.differs is None:
+                return
+            last = theirs[self.name]
+            if found.differs is not None or not self.own.must_wait(last, self.replica.clock):
+                of_another = max(found.unsent or 0, self.own.sent + 1) if found.same > self.own.sent else found.differs
+                raise Differs(self.name, of_another or last, True)
+            theirs.clear()
+            theirs.update(self.client.front(self.document))
+
+    def compared(self, theirs: Front) -> Compared:
+        """Compares the last own operation that was the same before, and all behind it."""
         last = theirs.get(self.name, 0)
-        behind = max(0, min(self.same, last) - 1)
-        mine = (it for it in self.own(behind) if it[1][0] <= last)
-        others = self.client.operations(self.document, {**theirs, self.name: behind})
+        same = max(0, min(self.own.same.get(self.place, 0), last) - 1)
+        mine = (it for it in self.own_behind(same) if it[1][0] <= last)
+        others = self.client.operations(self.document, {**theirs, self.name: same})
         there = (it for it in others if it[1][1] == self.name and it[1][0] <= last)
+        differs, unsent, copied = None, None, 0
         for one, other in zip_longest(mine, there):
-            if one != other or other[1][0] > self.sent:
-                raise Differs(self.name, min(it[1][0] for it in (one, other) if it is not None), True)
-            self.same = int(one[1][0])
+            if other is not None:
+                copied = max(copied, self.own.copied(other))
+            if other is not None and other[1][0] > self.own.sent:
+                unsent = unsent or other[1][0]
+            if differs is None and one == other:
+                same = one[1][0]
+            elif differs is None:
+                differs = min(it[1][0] for it in (one, other) if it is not None)
+        return Compared(same, differs, unsent, copied)
 
     def forked_at(self) -> Optional[int]:
         """From which own counter on the server has, or may have, operations of another of this name."""
@@ -72,7 +117,7 @@ class Exchange:
             return found.counter
         return None
 
-    def own(self, counter: int) -> Iterator[Operation]:
+    def own_behind(self, counter: int) -> Iterator[Operation]:
         """The own operations behind a counter."""
         return (it for it in self.replica.operations({**self.replica.front(), self.name: counter}) if it[1][1] == self.name)
 
@@ -99,25 +144,38 @@ class Exchange:
         self.refused.append((operation[1], refusal))
 
     def give(self, theirs: Front) -> None:
-        """Delivers to the server what it lacks, once it is stored. The first own one goes alone: of two copies of a store that do so
-        at once, one is refused before more of it is there."""
+        """Delivers to the server what it lacks, once it is stored."""
         lacking = self.replica.operations(theirs)
         self.replica.save_if_stored()
-        first = next((at for at, it in enumerate(lacking) if it[1][1] == self.name), len(lacking))
-        cuts = sorted({0, first, first + 1, *range(first + 1, len(lacking), BATCH), *range(0, first, BATCH), len(lacking)})
-        barred = Barred()
-        for begin, end in zip(cuts, cuts[1:]):
-            if not self.give_part(lacking[begin:end], barred):
+        barred, at = Barred(), 0
+        while at < len(lacking):
+            end = self.end_of_part(lacking, at)
+            if not self.give_part(lacking[at:end], barred):
                 return
+            at = end
+
+    def end_of_part(self, operations: List[Operation], at: int) -> int:
+        """Up to where operations are sent before their replies are read. Own ones go one by one until the server has logged one that
+        no other program can have sent: of two copies of a store that send at once, one is refused before more of it is there."""
+        end = at
+        while end < min(len(operations), at + BATCH):
+            counter, replica = operations[end][1]
+            is_sure = self.is_logging if counter <= self.own.restored else self.own.ours > self.own.restored
+            if replica == self.name and not is_sure:
+                return end if end > at else end + 1
+            end += 1
+        return end
 
     def give_part(self, operations: List[Operation], barred: "Barred") -> bool:
         """Delivers some operations, but for what depends on a refused one. Returns whether more is to be sent."""
         part = [it for it in operations if it not in barred]
-        before = self.sent
-        self.sent = max([before, *(it[1][0] for it in part if it[1][1] == self.name)])
+        before = self.own.sent
+        self.own.sent = max([before, *(it[1][0] for it in part if it[1][1] == self.name)])
+        replies = self.client.ask_all([["deliver", self.document, it] for it in part])
+        self.own.logged.update(it[1][0] for it, reply in zip(part, replies) if it[1][1] == self.name and applied_count(reply) > 0)
         held: List[Id] = []
         is_over = False
-        for operation, reply in zip(part, self.client.ask_all([["deliver", self.document, it] for it in part])):
+        for operation, reply in zip(part, replies):
             is_own = operation[1][1] == self.name
             if isinstance(reply, Refused):
                 self.note(operation, reply)
@@ -128,28 +186,41 @@ class Exchange:
                 raise reply
             elif reply and len(reply) != 3:
                 held.append(operation[1])
-            elif is_own and not reply and operation[1][0] > before:
-                # It was never sent, and is there.
-                raise Differs(self.name, operation[1][0], True)
-            else:
-                self.went += int(reply[0]) if reply else 0
-                self.same = operation[1][0] if is_own else self.same
+            elif is_own:
+                is_over = self.note_own(operation[1][0], before, applied_count(reply) > 0) or is_over
+            self.went += applied_count(reply)
         # What depends on a refused one would wait for ever.
         self.client.ask_all([["forget", self.document, it] for it in held])
         return not is_over
 
-    def check_given(self) -> None:
-        """Raises for what was refused, and where the own operations aren't all there, or more of them."""
+    def note_own(self, counter: int, before: int, is_new: bool) -> bool:
+        """Notes that the server has an own operation. Returns whether another program has sent it."""
+        if not is_new and counter > before and not self.own.is_ours:
+            if not self.own.is_filed:
+                raise Differs(self.name, counter, True)
+            self.own.sent, self.is_disturbed = min(self.own.sent, max(before, counter - 1)), True
+            return True
+        self.own.same[self.place] = counter
+        if is_new:
+            self.is_logging, self.own.ours = True, max(self.own.ours, counter)
+        return False
+
+    def has_all(self) -> bool:
+        """Whether the own operations are all there, and no more of them. Raises for what was refused."""
         for (counter, replica), refusal in self.refused:
             if refusal.number in NAME_USED_TWICE:
                 raise Differs(replica, counter, False)
         for _, refusal in self.refused:
             raise refusal
         there = self.client.front(self.document).get(self.name, 0)
-        if there > self.sent:
-            raise Differs(self.name, self.sent + 1, True)
-        if there < self.sent:
+        if there < self.own.sent:
             raise Lost(f"{self.document}: the server lacks operations of {self.name} from {there + 1} on: sync again")
+        return there == self.own.sent
+
+
+def applied_count(reply: object) -> int:
+    """How many operations the server has logged by one that was delivered."""
+    return int(reply[0]) if isinstance(reply, list) and len(reply) == 3 else 0
 
 
 class Barred:

@@ -36,8 +36,8 @@ OPERATION_LIMIT, REPLICA_LIMIT, HELD_LIMIT = LIMITS["log"], LIMITS["replicas"], 
 PATH_LIMIT, KEY_BYTES, TEXT_BYTES = LIMITS["path"], LIMITS["key"], LIMITS["value"]
 LEAST, GREATEST = -2**63, 2**63 - 1
 NAME = re.compile(r"[a-z0-9-]{1,32}\Z")
-# How many operations one `ops` can give.
-PAGE = LIMITS["page"]
+# How many operations one `ops` can give, and how many documents one `list`.
+PAGE, LISTED = LIMITS["page"], LIMITS["listed"]
 
 # What a hub answers when a server's reply is missing: 100 and 102 come where a change may have been made.
 SERVER_LOST, SERVER_AWAY, REPLY_TOO_LONG = NUMBERS["server-lost"], NUMBERS["server-away"], NUMBERS["reply-too-long"]
@@ -57,6 +57,20 @@ class Refused(Exception):
 
     def __str__(self) -> str:
         return f"{self.number} {self.name}"
+
+
+class Renewed(Refused):
+    """106: nothing was changed. What was asked is of a generation of the document that takes no changes any more: it goes on in another
+    one, `generation`, where elements have other ids. Begin anew in that from an empty front; `renew` of a replica goes on there with its
+    edits, and `elements_since` of a session leads from elements of before to those of now."""
+
+    def __init__(self, document: str = "", generation: str = "") -> None:
+        super().__init__(NUMBERS["renewed"])
+        self.document, self.generation = document, generation
+
+    def __str__(self) -> str:
+        where = f": {self.document} goes on in the generation {self.generation}, and this is of one before" if self.generation else ""
+        return f"{super().__str__()}{where}: begin anew, from an empty front, or by `renew` of a replica"
 
 
 class Lost(ConnectionError):
@@ -128,6 +142,8 @@ def refusal(reply: Sequence[Any], request_word: str = "") -> Exception:
         return Lost(f"{number} {name}: the change may have been made or not")
     if number == SERVER_AWAY:
         return Away(f"{number} {name}: the hub has no connection to the server")
+    if number == NUMBERS["renewed"]:
+        return Renewed()
     return Refused(*reply[1:])
 
 

@@ -5,6 +5,7 @@ from collections import deque
 from typing import Any, Deque, Dict, Iterable, List, Optional, Tuple
 
 from . import wire
+from .generations import FIRST, generation_of
 from .stored_log import StoredLog
 from .session import Session
 from .wire import Away, Cursor, Front, Id, Lost, Operation, Refused
@@ -47,7 +48,8 @@ class Writes:
     `delete` does the same once more. `unknown` is that write; `drop_unknown` takes it for done. `add` of this class counts
     once in any case, by a key of the writer's own. An index in a cursor means what is there at that time. If servers exchange, a peer may deliver what was lost: let it do so
     before `send_again`. Writes with replies are kept until `flush`, or until another start of the server has them. A server that was
-    started over an older file under its old NAME gives ids out again: `send_again` and `flush` compare what these mean now.
+    started over an older file under its old NAME gives ids out again: `send_again` and `flush` compare what these mean now. Where a hub
+    renews the document, what was answered before is in what it shows, and isn't sent again.
     """
 
     def __init__(self, document: str) -> None:
@@ -128,16 +130,29 @@ class Writes:
         in the next session, and flush again. Raises Refused without a file if no hub answers (2) or it can't
         know (104), and for a waiting write that is refused."""
         refused = self._send_waiting(server)
+        done = self._take_renewed(server)
         last = self._last()
         self._check_all_there(server, last)
         if file is not None:
             self._await_file(server, file, last, seconds)
         else:
             self._await_hub(server, last)
-        count, self.answered = len(self.answered), deque()
+        count, self.answered = len(done) + len(self.answered), deque()
         if refused:
             raise refused[0]
         return count
+
+    def _take_renewed(self, server: Session) -> List[Write]:
+        """Takes out those of the answered writes that a generation of before had at its end: what they did is in what the document
+        shows, and a hub that renews documents has on disk what it has answered."""
+        front = server.front(self.document) if self.answered else {}
+        if generation_of(front) == FIRST:
+            return []
+        of_before = [it for it in self.answered if it.id is not None and not wire.covers(front, it.id)]
+        unsaved = server.unsaved(self.document, [it.id for it in of_before if it.id is not None])
+        done = [it for it in of_before if it.id not in unsaved]
+        self.answered = deque(it for it in self.answered if it not in done)
+        return done
 
     def _last(self) -> Front:
         """The greatest counter of each replica among what was answered."""
@@ -183,6 +198,7 @@ class Writes:
 
     def _take_lost(self, server: Session) -> List[Write]:
         """Those of the answered writes that the server lacks, or has something else by their ids. The others stay."""
+        self._take_renewed(server)
         front = server.front(self.document)
         before = dict(front)
         for write in self.answered:

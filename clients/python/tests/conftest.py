@@ -2,6 +2,7 @@
 
 import json
 import os
+import socket
 import subprocess
 import sys
 import time
@@ -47,7 +48,7 @@ class Server:
                 return
             # Another program may have its port for a moment.
             self.kill()
-            time.sleep(0.5)
+            wait_until(lambda: is_free(self.address))
         raise AssertionError(f"{words} doesn't start")
 
     @property
@@ -72,6 +73,18 @@ class Server:
     def restart(self) -> None:
         self.kill()
         self.start()
+
+
+def is_free(address: str) -> bool:
+    """Whether a server can listen there."""
+    host, port = address.rsplit(":", 1)
+    with socket.socket() as it:
+        it.setsockopt(socket.SOL_SOCKET, socket.SO_REUSEADDR, 1)
+        try:
+            it.bind((host, int(port)))
+            return True
+        except OSError:
+            return False
 
 
 @pytest.fixture

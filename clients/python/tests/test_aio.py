@@ -131,11 +131,12 @@ def test_a_task_that_is_cancelled(serve: Serve) -> None:
             await session.open("d")
             await session.assign("d", [0, "b"], "right")
             freeze(server)
-            waiting = [asyncio.ensure_future(session.add("d", [0, "n"], 1)) for _ in range(3)]
-            await asyncio.sleep(0)  # each has asked: since Python 3.12 wait_for makes no task that would come behind them
-            with pytest.raises(asyncio.TimeoutError):
-                await asyncio.wait_for(session.add("d", [0, "n"], 10), 0.2)
-            waiting[1].cancel()
+            waiting = [asyncio.ensure_future(session.add("d", [0, "n"], number)) for number in (1, 1, 1, 10)]
+            await asyncio.sleep(0)  # each has asked
+            for task in (waiting[3], waiting[1]):
+                task.cancel()
+                with pytest.raises(asyncio.CancelledError):
+                    await task
             server.process.send_signal(signal.SIGCONT)
             assert await session.values("d", [0, "b"]) == ["right"]
             assert [await waiting[0], await waiting[2]] == [[2, "srv-1"], [4, "srv-1"]]
@@ -148,9 +149,9 @@ def test_a_server_that_is_silent(serve: Serve) -> None:
     server = serve("d")
 
     async def test() -> None:
-        async with aio.connected(server.address, seconds=0.5) as session:
+        async with aio.connected(server.address, seconds=0.1) as session:
             freeze(server)
-            with pytest.raises(Lost, match="no reply for 0.5 s"):
+            with pytest.raises(Lost, match="no reply for 0.1 s"):
                 await session.version()
 
     try:

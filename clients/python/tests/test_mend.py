@@ -104,6 +104,21 @@ def test_a_copied_file_under_one_name(tmp_path: Path, servers: List[Server]) -> 
     assert agree(fresh, stays)["x"] == "settled"
 
 
+def test_an_edit_of_what_the_other_server_deleted_brings_it_back(tmp_path: Path, servers: List[Server]) -> None:
+    """As each edit that is made at the same time as a deletion."""
+    stays = started(folder(tmp_path, "a"), "oslo", servers)
+    edit(stays, *BASE, ["insert", [0, "list", 1], {}], ["assign", [0, "list", 2, "title"], "b"])
+    stays.kill()
+    copy(stays.file, str(folder(tmp_path, "b") / "oslo.db"))
+    goes = started(tmp_path / "b", "oslo", servers)
+    stays.start()
+    edit(stays, ["delete", [0, "list", 2]], ["delete", [0, "list", 1]])
+    edit(goes, ["assign", [0, "list", 2, "done"], True], ["insert", [0, "list", 1], "behind a"])
+    goes.kill()
+    assert "0 can't be made" in tool("mend", goes.file, "--name", "bonn", "--to", stays.address)
+    assert shown(stays)["list"] == ["behind a", {"done": True}]
+
+
 def test_cards_that_two_starts_began_alike_are_two(tmp_path: Path, servers: List[Server]) -> None:
     """Both insert {} by the same id, and put another title into it."""
     stays, goes = started(folder(tmp_path, "a"), "oslo", servers), started(folder(tmp_path, "b"), "oslo", servers)

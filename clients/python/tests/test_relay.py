@@ -299,10 +299,10 @@ def test_a_server_that_freezes_in_mid_pull(serve: Serve, relay: Callable[..., Re
     for _ in range(3):
         write(alice, "k", 12_000)
     kept = relay(*(it.address for it in servers))
-    wait_for(lambda: f"{alice.address}: connected" in kept.errors())
-    time.sleep(0.15)
+    reaches(bob, {"alice-1": 1})
     alice.process.send_signal(signal.SIGSTOP)
     try:
+        assert "agree" not in kept.output()
         for number, burst in enumerate((1, 100, 500, 1)):
             write(bob, f"b{number}", burst)
             comes(carol, f"b{number}", burst - 1)
@@ -458,7 +458,10 @@ def test_a_refusal_is_no_agreement(serve: Serve, relay: Callable[..., Relay]) ->
         write(other, "b")
         kept = relay(one.address, other.address)
         wait_for(lambda: kept.errors().count("15 id-conflict") == 2)
-        time.sleep(0.5)
+        # What others made goes both ways behind that.
+        for server, peer, name in ((one, other, "ada"), (other, one, "bob")):
+            asked(server.address, ["deliver", "d", ["op", [1, name], [], [[["m", 0]], name], ["assign", 1]]])
+            comes(peer, name)
         assert "agree" not in kept.output()
         assert kept.end() == 1
     finally:
@@ -467,16 +470,16 @@ def test_a_refusal_is_no_agreement(serve: Serve, relay: Callable[..., Relay]) ->
 
 def test_it_ends_within_seconds(serve: Serve, relay: Callable[..., Relay]) -> None:
     """SIGINT ends it though a server is frozen, with what that one lacks; a second one ends it at once, without."""
-    alice, bob = serve("d", name="alice"), serve("d", name="bob")
+    alice, bob, carol = (serve("d", name=it) for it in ("alice", "bob", "carol"))
     write(alice, "a")
     for second in (False, True):
-        kept = relay(alice.address, bob.address, ends_soon=True)
+        kept = relay(alice.address, bob.address, carol.address, ends_soon=True)
         comes(bob, "a")
-        wait_for(lambda: kept.output() == "d: all 2 agree\n")
+        wait_for(lambda: kept.output() == "d: all 3 agree\n")
         bob.process.send_signal(signal.SIGSTOP)
         try:
-            write(alice, "b")
-            time.sleep(0.5)
+            write(alice, f"b{second}")
+            comes(carol, f"b{second}")
             kept.process.send_signal(signal.SIGINT)
             wait_for(lambda: not kept.catches(signal.SIGINT))
             if second:
@@ -542,13 +545,14 @@ def test_documents_that_are_missing(serve: Serve, relay: Callable[..., Relay]) -
     assert f"d: not reached: {other.address}" in kept.output()
 
 
-def test_a_hub_whose_server_is_killed(serve: Serve, relay: Callable[..., Relay]) -> None:
+def test_a_hub_whose_server_is_killed(serve: Serve, relay: Callable[..., Relay], tmp_path: Path) -> None:
     """A relay at a hub of alice and at bob, while alice is away for a moment."""
     if not shutil.which("node"):
         pytest.skip("node isn't installed")
     alice, bob = serve("d", name="alice"), serve("d", name="bob")
     command = ["node", str(TOP / "clients" / "hub" / "hub.mjs"), alice.address, "--lines", "127.0.0.1:0"]
-    with subprocess.Popen(command, stdout=subprocess.PIPE, stderr=subprocess.DEVNULL) as hub:
+    notes = tmp_path / "hub.notes"
+    with open(notes, "wb") as errors, subprocess.Popen(command, stdout=subprocess.PIPE, stderr=errors) as hub:
         try:
             assert hub.stdout is not None
             kept = relay(json.loads(hub.stdout.readline())[1], bob.address)
@@ -556,7 +560,7 @@ def test_a_hub_whose_server_is_killed(serve: Serve, relay: Callable[..., Relay])
             comes(bob, "a", last=49)
             alice.kill()
             write(bob, "b", 70)
-            time.sleep(1)
+            wait_for(lambda: "trying again" in notes.read_text())
             alice.start()
             comes(alice, "b", last=69)
             write(alice, "c", 70)

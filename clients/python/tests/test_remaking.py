@@ -193,6 +193,34 @@ def test_cards_that_two_copies_began_alike_are_two(serve: Serve, tmp_path: Path)
         assert sorted(it["title"] for it in found) == ["a's", "b's"]
 
 
+@pytest.mark.parametrize("is_copy", [False, True])
+def test_an_edit_of_what_others_deleted_survives_under_a_new_name_too(serve: Serve, tmp_path: Path, is_copy: bool) -> None:
+    """As each edit that is made at the same time as a deletion: what becomes of it doesn't hang on who has the name."""
+    path, other = str(tmp_path / "ada"), str(tmp_path / "other")
+    with session(serve("d")) as client:
+        with Store(path, "d", "ada") as store, Replica.stored(store) as me:
+            me.put([0, "list"], [{"title": "milk", "votes": jcrdt.Counter(1)}, "bread", "tea"])
+            me.sync(client, "d")
+        if is_copy:
+            shutil.copy(path, other)
+            with Store(path, "d") as store, Replica.stored(store) as me:
+                me.assign([0, "by"], "the first")
+                me.sync(client, "d")
+        with Store(other, "d", "bob") as store, Replica.stored(store) as me:
+            if not is_copy:
+                me.sync(client, "d")
+            for _ in range(3):
+                client.delete("d", [0, "list", 1])
+            me.add([0, "list", 1, "votes"], 1)
+            me.insert([0, "list", 2], "behind bread")
+            me.assign([0, "list", 4], "green tea")
+            name = me.name
+            exchanged(me, client)
+            assert (me.name != name) == is_copy
+            shown = me.plain([0, "list"])
+            assert shown == client.plain("d", [0, "list"]) == [{"votes": jcrdt.Counter(1)}, "behind bread", "green tea"]
+
+
 def test_edits_of_elements_keep_what_they_knew(serve: Serve, tmp_path: Path) -> None:
     """A conflict stays one, and what was put into an element that is made again is in that one."""
     path, copy = str(tmp_path / "ada"), str(tmp_path / "copy")

@@ -36,6 +36,12 @@ def opened(path: Any, document: str = "notes") -> Store:
     return Store(str(path), document, "ada")
 
 
+def text_of(path: Path) -> str:
+    """A file without marks and lines of openings."""
+    lines = path.read_text().splitlines(keepends=True)
+    return "".join([lines[0].rstrip("\t \n") + "\n", *(it for it in lines[1:] if not it.startswith('["session",'))])
+
+
 def test_what_is_appended_is_there_at_the_next_start(tmp_path: Path) -> None:
     with opened(tmp_path / "notes") as store:
         name = store.name
@@ -45,6 +51,33 @@ def test_what_is_appended_is_there_at_the_next_start(tmp_path: Path) -> None:
     with opened(tmp_path / "notes") as store:
         assert (store.name, store.lines, store.unread) == (name, [FIRST, SECOND, THIRD], [])
     assert os.listdir(tmp_path) == ["notes"]
+
+
+def test_a_file_says_whether_it_was_closed_and_when_it_was_edited(tmp_path: Path) -> None:
+    """As those of JavaScript: a tab behind the names, or a space; a line before what was made in one opening."""
+    path = file_of(tmp_path, HEAD, FIRST)
+    words: List[str] = []
+    written: List[List[str]] = [[SECOND], [], [THIRD]]
+    for number, lines in enumerate(written):
+        with opened(path) as store:
+            assert path.read_text().splitlines()[0] == f"{HEAD}\t"
+            assert (store.is_new, store.is_doubtful, store.sessions[-1]) == (False, False, ((1, 2, 2)[number], store.session))
+            if lines:
+                store.append(lines)
+                words.append(f'["session","{store.session}"]')
+        assert path.read_text().splitlines()[0] == f"{HEAD} "
+    assert path.read_text() == "\n".join([f"{HEAD} ", FIRST, words[0], SECOND, words[1], THIRD, ""])
+    with opened(path) as store:
+        assert [after for after, _ in store.sessions] == [1, 2, 3]
+        (tmp_path / "copy").write_text(path.read_text())
+        store.replace("ada-1", store.lines)
+        assert path.read_text() == "\n".join([f"{HEAD}\t", FIRST, words[0], SECOND, words[1], THIRD, ""])
+        store.replace("ada-2", store.lines)
+        assert store.is_new and store.sessions == [(0, store.session)]
+        assert path.read_text().splitlines()[1:] == [FIRST, SECOND, THIRD, f'["session","{store.session}"]']
+    with opened(tmp_path / "copy") as store:
+        assert store.is_doubtful
+    assert (tmp_path / "copy").read_text().splitlines()[0] == f"{HEAD}\t"
 
 
 def test_a_second_store_of_one_file_is_busy_and_named(tmp_path: Path) -> None:
@@ -85,9 +118,9 @@ def test_a_replaced_file_stays_locked_and_a_link_stays_a_link(tmp_path: Path) ->
         store.append([SECOND])
         store.replace("ada-3", [])
     assert link.is_symlink() and path.stat().st_mode & 0o777 == 0o640
-    assert path.read_text() == '["replica","ada-3","notes"]\n'
-    assert (tmp_path / "notes.old").read_text() == f"{HEAD}\n{FIRST}\n"
-    assert (tmp_path / "notes.old-2").read_text() == f'["replica","ada-2","notes"]\n{FIRST}\n{SECOND}\n'
+    assert text_of(path) == '["replica","ada-3","notes"]\n'
+    assert text_of(tmp_path / "notes.old") == f"{HEAD}\n{FIRST}\n"
+    assert text_of(tmp_path / "notes.old-2") == f'["replica","ada-2","notes"]\n{FIRST}\n{SECOND}\n'
 
 
 def test_a_fork_leaves_the_store_to_the_parent(tmp_path: Path) -> None:
@@ -113,9 +146,9 @@ def test_a_fork_leaves_the_store_to_the_parent(tmp_path: Path) -> None:
 
 
 def test_a_killed_program_leaves_no_lock(tmp_path: Path) -> None:
-    words = [sys.executable, "-c", "import sys, time; from jcrdt.store import Store\nstore = Store(sys.argv[1], 'notes')\n"
-             "print('open', flush=True)\ntime.sleep(600)", str(tmp_path / "notes")]
-    with subprocess.Popen(words, stdout=subprocess.PIPE, env={**os.environ, "PYTHONPATH": str(PACKAGE)}) as child:
+    words = [sys.executable, "-c", "import sys; from jcrdt.store import Store\nstore = Store(sys.argv[1], 'notes')\n"
+             "print('open', flush=True)\nsys.stdin.read()", str(tmp_path / "notes")]
+    with subprocess.Popen(words, stdin=subprocess.PIPE, stdout=subprocess.PIPE, env={**os.environ, "PYTHONPATH": str(PACKAGE)}) as child:
         assert child.stdout is not None and child.stdout.readline() == b"open\n"
         with pytest.raises(Busy):
             opened(tmp_path / "notes")
@@ -130,7 +163,7 @@ def test_a_last_line_that_was_cut_off_is_cut(tmp_path: Path, torn: str) -> None:
     with opened(path) as store:
         assert (store.lines, store.unread) == ([FIRST], [])
         store.append([SECOND])
-    assert path.read_text() == f"{HEAD}\n{FIRST}\n{SECOND}\n"
+    assert text_of(path) == f"{HEAD}\n{FIRST}\n{SECOND}\n"
 
 
 def test_a_first_line_that_was_cut_off(tmp_path: Path) -> None:
@@ -165,7 +198,7 @@ def test_a_disk_that_is_full_for_a_moment(tmp_path: Path) -> None:
             resource.setrlimit(resource.RLIMIT_FSIZE, limits)
         assert path.read_text() == before
         store.append([SECOND])
-    assert path.read_text() == f"{before}{SECOND}\n"
+    assert text_of(path) == f"{HEAD}\n{FIRST}\n{SECOND}\n"
 
 
 @needs_library
@@ -223,7 +256,7 @@ def test_a_damaged_line_is_kept_and_said(tmp_path: Path, damaged: str) -> None:
         assert me.name != "ada-1"
         me.assign([0, "v"], 2)
         me.save()
-    assert (tmp_path / "notes.old").read_text() == text
+    assert text_of(tmp_path / "notes.old") == text
     with opened(path) as store, Replica.stored(store) as me:
         assert (me.unread, me.plain()) == ([], {"t": "Plan", "v": 2})
 

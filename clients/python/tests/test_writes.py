@@ -7,7 +7,7 @@ import subprocess
 import threading
 import time
 from pathlib import Path
-from typing import Any, Callable, Iterator, List
+from typing import Any, Callable, Iterator, List, Set
 
 import pytest
 from conftest import SECONDS, TOP, Server, wait_until
@@ -15,6 +15,7 @@ from test_session import answering, freeze
 
 import jcrdt
 from jcrdt import Away, Lost, Refused, Writes, followed, followed_file, front_on_disk
+from jcrdt import writes as writing
 from jcrdt.follow import Disk
 
 Serve = Callable[..., Server]
@@ -126,16 +127,34 @@ def test_what_is_unknown_is_kept() -> None:
         assert writes.send(session, "add", [0, "n"], 3) == [2, "a-1"]
 
 
-def test_a_flush_that_ends(serve: Serve, tmp_path: Path) -> None:
+class Time:
+    """A time that passes by its pauses alone. Something happens in each of them."""
+
+    def __init__(self) -> None:
+        self.now = 0.0
+        self.meanwhile: Callable[[], None] = lambda: None
+
+    def monotonic(self) -> float:
+        return self.now
+
+    def sleep(self, seconds: float) -> None:
+        self.now += seconds
+        self.meanwhile()
+
+
+def test_a_flush_that_ends(serve: Serve, monkeypatch: pytest.MonkeyPatch) -> None:
     """The server writes to another file than the one that is named; it is killed while it is waited for."""
     server, writes = serve("d"), Writes("d")
     other = serve("d", name="other")
     with jcrdt.connected(server.address) as session:
         session.open("d")
         writes.send(session, "assign", [0, "k"], 1)
+        clock = Time()
+        monkeypatch.setattr(writing, "time", clock)
         with pytest.raises(TimeoutError):
             writes.flush(session, file=other.file, seconds=0.5)
-        threading.Timer(0.3, server.kill).start()
+        assert 0.5 <= clock.now < 0.6
+        clock.meanwhile = server.kill
         with pytest.raises(Lost):
             writes.flush(session, file=other.file, seconds=SECONDS)
     assert len(writes.answered) == 1
@@ -183,13 +202,11 @@ def test_a_session_at_the_hub_over_a_restart(serve: Serve) -> None:
             assert eventually(lambda: session.values("d", [0, key])) == [key * 3]
         assert session.assign("d", [0, "z"], "Z")[1] == "srv-2"
         assert session.keys("d", [0]) == ["a", "b", "c", "z"]
-        words = []
-        while True:
-            push = session.next_push(0.5)
-            if push is None:
-                break
-            words.append(push[0])
-        assert "reopened" in words and "changed" in words
+        words: Set[str] = set()
+        while not {"reopened", "changed"} <= words:
+            push = session.next_push(SECONDS)
+            assert push is not None, words
+            words.add(push[0])
 
 
 def test_a_change_whose_reply_is_missing_at_the_hub(serve: Serve) -> None:
