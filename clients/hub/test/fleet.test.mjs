@@ -70,11 +70,11 @@ suite("fleet", { skip: lacking, concurrency: true }, () => {
     for (let at = 0; at < 200; at++) await assign(at % 2 ? ada : bob, `k${at}`, at);
     await sees(bob, "k199", 199);
     const [key] = redis.ask("KEYS", "jcrdt:hubs:ops:d:*").split("\n");
-    const length = () => Number(redis.ask("XLEN", key));
+    const count = () => redis.ask("XRANGE", key, "-", "+").split('["op",').length - 1;
     for (const words of [["XTRIM", key, "MAXLEN", "7"], ["DEL", key]]) {
       redis.ask(...words);
       redis.ask("XADD", key, "*", "hub", "x", "ops", "[nothing]");
-      await until("it is whole", () => length() > 7);
+      await until("it is whole", () => count() >= 200);
       await assign(ada, `${words[0]}-a`, 1);
       await assign(bob, `${words[0]}-b`, 2);
       await sees(bob, `${words[0]}-a`, 1);
