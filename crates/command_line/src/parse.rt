@@ -1,6 +1,6 @@
 //! Arguments as plain records.
 ghost use Rattle.std.specs.Prelude.{◌≡◌, ◌≢◌, ℕ, Bool, false, true, codes, map, IfOk, IfErr};
-ghost use Rattle.std.specs.Prelude.{MatchOption, OnOk, unwrap_or};
+ghost use Rattle.std.specs.Prelude.{MatchOption, OnOk, option_map, unwrap_or};
 ghost use Rattle.clap.specs.Words.{first_of, found_of, kind_of, matches_of, rows_of};
 ghost use Rattle.run_core.specs.Names.{Wanted, is_good};
 ghost use Rattle.command_line.specs.CommandLine.{AsksToCheck, AsksToRun, AsksToServe, NamesServer};
@@ -133,6 +133,14 @@ fn terms_in(matches: &ArgMatches<'_>) -> Option<Terms>
     })
 }
 
+// Where monitors may ask, if anywhere.
+fn health_in<'a>(matches: &ArgMatches<'a>) -> Option<&'a str>
+    ensures { option_map (λ s. s.now) result
+        ≡ first_of (codes "health") (rows_of (found_of matches.now)) }
+{
+    matches.get_str("health")
+}
+
 // What clap's matches of a `serve` ask for. It is refused where a name is bad, there are too many
 // documents, or a number isn't one that it may be.
 fn serve_args<'a>(alloc: Global, matches: &ArgMatches<'a>) -> Result<ServeArgs<'a>, ArgsFault>
@@ -159,7 +167,7 @@ fn serve_args<'a>(alloc: Global, matches: &ArgMatches<'a>) -> Result<ServeArgs<'
         terms,
         pace,
         file: argument_of(matches, "file"),
-        health: matches.get_str("health"),
+        health: health_in(matches),
     })
 }
 
