@@ -4,7 +4,7 @@ Each replica's go under a name that is made of its own, of the generation and of
 copies of one store make the same of what they have in common, and the hub has it once, also where a program is killed and begins again.
 """
 
-from typing import Any, Callable, Dict, Iterable, List, NamedTuple, Optional, Sequence, Tuple
+from typing import Any, Callable, Dict, Iterable, List, Mapping, NamedTuple, Optional, Sequence, Tuple
 
 from . import wire
 from .remaking import name_of
@@ -41,10 +41,10 @@ class Made(NamedTuple):
     origin: Operation
 
 
-def carried(log: Iterable[Operation], steps: Sequence[Step], is_there: Callable[[Id], bool],
+def carried(log: Iterable[Operation], steps: Sequence[Step], is_there: Callable[[Id], bool], made: Mapping[Key, Id],
             maker_of: Callable[[Id], List[str]]) -> Carried:
-    """Carries a log over. `is_there` is whether the hub had an operation at the end of the first generation, and `maker_of` says who
-    made one: its replica, and the opening of its store where that is known."""
+    """Carries a log over. `is_there` is whether the hub had an operation at the end of the first generation, and `made` has the ids there
+    of those that others had made again. `maker_of` says who made one: its replica, and the opening of its store where that is known."""
     behind: Dict[Key, Any] = {}
     unsent: List[Made] = []
     stored: List[Operation] = []
@@ -58,6 +58,7 @@ def carried(log: Iterable[Operation], steps: Sequence[Step], is_there: Callable[
     lost: List[Operation] = []
     for number, step in enumerate(steps):
         again = Carrier(step, behind, [*stored, *step.others] if unsent else [], (lambda it: [it[1]]) if number else maker_of)
+        again.take_ids({} if number else made)
         for operation, origin in unsent:
             is_done = covers(step.end, operation[1]) if number else False
             if not is_done and not again.takes(operation, origin):
@@ -86,6 +87,12 @@ class Carrier:
             self._ids[key_of(old)] = now
             self.behind[key_of(now)] = 1 if is_first else last
             last = now
+
+    def take_ids(self, made: Mapping[Key, Id]) -> None:
+        """Takes elements that the generation has under other ids."""
+        for old, there in made.items():
+            if key_of(there) in self._ids:
+                self._ids[old] = self._ids[key_of(there)]
 
     def _note_stored(self, operation: Operation) -> None:
         if operation[4][0] != "delete":

@@ -432,13 +432,15 @@ class Replica:
         with self._syncing:
             later = Later(client, document, self.front())
             forked = self._forked_before(client, later.past)
+            made = {} if forked is None else self._made_before(client, later.past, forked)
             steps, log = later.found(self)
             if not steps:
                 # It is that generation.
                 return Remade(0, [])
             with self._listing, self._lock:
-                is_there: Callable[[Id], bool] = lambda it: covers(steps[0].end, it) and not self._is_forked(it, forked)
-                found = carried(self.operations(), steps, is_there, self._maker_of)
+                is_there: Callable[[Id], bool] = lambda it: (
+                    (it[0], it[1]) in made or covers(steps[0].end, it) and not self._is_forked(it, forked))
+                found = carried(self.operations(), steps, is_there, made, self._maker_of)
                 there = wire.front_of(log)
                 again = [it for it in found.operations if not covers(there, it[1])]
                 self._use(name, [wire.encoded(it).decode() for it in [*log, *again]])
@@ -460,6 +462,16 @@ class Replica:
             return Exchange(self, client, past, self._own).forked_at()
         except Refused:
             return None
+
+    def _made_before(self, client: Session, past: str, forked: int) -> Dict[Tuple[int, str], Id]:
+        """Of own operations those that copies of the store have made again in a generation, by `remake`: their ids there."""
+        name, own = fresh_name("unmade"), self._own
+        log = (wire.encoded(it).decode() for it in client.operations(past))
+        with Replica(fresh_name("scratch"), log, self._library) as scratch:
+            stored = self.front().get(self.name, 0)
+            remaking = Remaking(self, scratch, How(name, forked, stored, own.sure, own.logged, own.session_of, False))
+            remaking.run()
+            return {old: now for old, now in remaking.ids.items() if now[1] != name}
 
     def remake_in(self, other: "Replica", elements: Iterable[Any], lines: Optional[Iterable[str]] = None) -> Remade:
         """Makes own edits again in the replica of a new document, whose content `python -m jcrdt renew put` made of this one's, or of a

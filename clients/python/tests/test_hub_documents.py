@@ -390,6 +390,35 @@ def test_the_id_of_another_in_the_generation_before_is_no_own_edit_of_mine(hub: 
 
 
 @needs_library
+def test_what_a_copy_has_made_again_before_is_there(hub: Hub, tmp_path: Path) -> None:
+    """A third copy has used their ids. What follows goes into the element that the copy has made."""
+    paths = [tmp_path / name for name in ("first", "second", "third")]
+    with opened(hub) as client:
+        me = Program(paths[0])
+        me.me.put([0, "list"], [])
+        me.vote(1)
+        me.sync(client)
+        third = me.copied(paths[2])
+        third.write("of the third")
+        me.me.insert([0, "list", 0], {})
+        me.me.save()
+        second = me.copied(paths[1])
+        third.sync(client)
+        second.me.assign([0, "list", 1, "by"], "second")
+        second.sync(client)
+        hub.desk.renew("d")
+        me.me.assign([0, "list", 1, "title"], "first")
+        with pytest.raises(Renewed):
+            me.sync(client)
+        assert me.me.renew(fresh_name("me"), client, "d").lost == []
+        me.sync(client)
+        card = {"by": "second", "title": "first"}
+        assert [it for it in client.plain("d", [0, "list"]) if it != "of the third"] == [card]
+        for it in (me, second, third):
+            it.close()
+
+
+@needs_library
 def test_a_new_name_in_a_document_that_is_renewed_meanwhile(hub: Hub, tmp_path: Path) -> None:
     """Operations of two generations aren't mixed."""
     path, backup = str(tmp_path / "ada"), str(tmp_path / "backup")
