@@ -172,7 +172,8 @@ export class Fleet {
       }
       this.#redis?.end();
       this.#reader?.end();
-      if (!this.#isStopped) await pauseBy(clock, RETRY_MS[Math.min(failures++, RETRY_MS.length - 1)] ?? 0);
+      const ms = RETRY_MS[Math.min(failures++, RETRY_MS.length - 1)] ?? 0;
+      if (!this.#isStopped) await pauseBy(clock, ms);
     }
   }
 
@@ -341,7 +342,8 @@ export class Fleet {
     }
     const isOnDisk = /aof_enabled:1/.test(await this.ask("INFO", "persistence"));
     if (!isOnDisk) {
-      this.#options.note("Redis keeps nothing on disk (appendonly no): it is to be founded again whenever that starts again");
+      this.#options.note("Redis keeps nothing on disk (appendonly no): whenever it has started again, "
+        + "the fleet is to be founded again");
     }
     const id = `${randomBytes(8).toString("hex")} ${isOnDisk ? "-" : this.#run}`;
     await this.ask("SET", ID, id);
@@ -409,7 +411,10 @@ export class Fleet {
     const keys = [ID, home(document), takers(document), hold(document), gen(document, number),
       gen(document, number + 1)];
     const [word, ...rest] = await this.#script("look", keys, this.me, this.lease, own);
-    if (word === "other") throw new OtherGeneration(`the fleet has ${decisionOf(rest[0]).generation} of it, and this hub ${generation}`);
+    if (word === "other") {
+      const theirs = decisionOf(rest[0]).generation;
+      throw new OtherGeneration(`the fleet has ${theirs} of it, and this hub ${generation}`);
+    }
     const [id, isBack, next, held, at] = rest;
     return { id, isBack: isBack === 1, next: next || null, hold: held || null, home: at || null };
   }
@@ -428,7 +433,8 @@ export class Fleet {
     if (!this.#isOurs(id)) throw new Error(`Redis doesn't know the fleet: ${UNTIL_FOUNDED}`);
     const keys = [ID, home(document), hold(document)];
     const [isHeld, at] = await this.#script("hold", keys, this.me, id, token, ms);
-    if (isHeld !== 1) throw new Error(`${String(at || "no hub").split(":")[0]} is its home and renews it`);
+    const [name] = String(at || "no hub").split(":");
+    if (isHeld !== 1) throw new Error(`${name} is its home and renews it`);
     return token;
   }
 

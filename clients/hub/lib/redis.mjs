@@ -145,7 +145,8 @@ export class Redis {
 
   #endSilent() {
     const isLate = ++this.#ticks * TICK_MS > this.#silence;
-    if (this.#waiting.length > 0 && isLate) this.#socket.destroy(new Error(`no reply for ${this.#silence / 1000} s`));
+    if (this.#waiting.length === 0 || !isLate) return;
+    this.#socket.destroy(new Error(`no reply for ${this.#silence / 1000} s`));
   }
 
   /** @param {string} cause */

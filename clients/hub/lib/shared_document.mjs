@@ -67,7 +67,8 @@ export class SharedDocument {
       await this.touch();
       await this.stream.begin();
     };
-    const begins = begun().catch((error) => this.#parts.note(`${this.#parts.document}: ${messageOf(error)}`));
+    const { document, note } = this.#parts;
+    const begins = begun().catch((error) => note(`${document}: ${messageOf(error)}`));
     await Promise.race([begins, pauseBy(this.#clock, OPEN_MS)]);
   }
 

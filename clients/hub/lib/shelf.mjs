@@ -294,7 +294,9 @@ export class Shelf {
    *  @param {string} document @param {() => Promise<T>} work
    *  @returns {Promise<T>} */
   async #without(document, work) {
-    if (this.#options.fleet) throw new NoDocument(`${document} is of several hubs: it keeps its name, and isn't deleted`);
+    if (this.#options.fleet) {
+      throw new NoDocument(`${document} is of several hubs: it keeps its name, and isn't deleted`);
+    }
     if (!this.folder.names.has(document)) throw new NoDocument(`there is no document ${document}`);
     if (this.#shut.has(document)) throw new NoDocument(`${document} is being changed`);
     this.#shut.add(document);
@@ -446,9 +448,11 @@ export class Shelf {
     try {
       const later = await fleet.later(document, record.generation);
       if (later.length === 0) return undefined;
-      const openOf = (/** @type {string} */ generation) => this.#openOf(document, document, record, generation);
+      /** @param {string} generation */
+      const openOf = (generation) => this.#openOf(document, document, record, generation);
       await this.folder.tidy(document, record);
-      const taken = await takeOver({ folder: this.folder, fleet, document, record, later, openOf, atStep, note });
+      const { folder } = this;
+      const taken = await takeOver({ folder, fleet, document, record, later, openOf, atStep, note });
       return taken.generation;
     } catch (error) {
       note(`${document} can't go on in its next generation: ${messageOf(error)}`);

@@ -50,7 +50,8 @@ export async function takeOver(taking) {
     const past = [{ generation: record.generation, until, ...size },
       ...later.slice(0, -1).map(({ generation }) =>
         ({ generation, until, operations: 0, replicas: 0, isGone: true }))];
-    const taken = { ...record, generation: last.generation, began, history: [...record.history, ...past] };
+    const history = [...record.history, ...past];
+    const taken = { ...record, generation: last.generation, began, history };
     if (lost.length > 0) {
       await folder.writeLost(document, record.generation, lost.map((it) => print(it)));
       note(`${document}: ${lost.length} changes of generation ${record.generation} can't be made in `
@@ -83,7 +84,9 @@ async function addOthers({ fleet, document, later }, steps) {
     const entries = await fleet.ask("XRANGE", ops(document, generation), "-", "+");
     for (const [, fields] of entries) {
       if (fields[2] !== "ops") continue;
-      step.others.push(...parse(fields[3]).filter((/** @type {Operation} */ it) => !covers(start, it[1])));
+      /** @type {Operation[]} */
+      const operations = parse(fields[3]);
+      step.others.push(...operations.filter((it) => !covers(start, it[1])));
     }
   }
 }
