@@ -12,6 +12,7 @@ from support import TOP
 from tried import NOTE, NO_FOLDER, SECONDS, Tried, Words, same
 
 NAME = "isn't 1 to 24 of a-z, 0-9 and -"
+HELP = "\n\nFor more information, try '--help'.\n"
 DOCUMENT = "isn't 1 to 32 of a-z, 0-9 and -"
 LACKING = "the following required arguments were not provided:"
 SERVE = ["serve", "--addr", "127.0.0.1:0", "--file", "copy.db"]
@@ -53,7 +54,7 @@ BAD_WORDS: List[Tuple[List[str], Optional[str]]] = [
     ([*SERVE, "--sessions", "1", "--backlog", "100001", "d"], '"100001" isn\'t a number of operations from 1 to 100000'),
     ([*SERVE, "--sessions", "1", "--durable", "--backlog", "x", "d"], '"x" isn\'t a number of operations from 1 to 100000'),
     ([*SERVE, "--sessions", "1", "--durable", "--durable", "d"], "the argument '--durable' cannot be used multiple times"),
-    ([*SERVE, "--sessions", "1", "--health"], "a value is required for '--health <health>' but none was supplied"),
+    ([*SERVE, "--sessions", "1", "--health"], f"a value is required for '--health <health>' but none was supplied{HELP}"),
     ([*SERVE, "--sessions", "1"], f"{LACKING}\n  <doc>..."),
     ([*SERVE, "--sessions", "1", "D"], f'the document\'s name "D" {DOCUMENT}'),
     (["check"], f"{LACKING}\n  --file <file>"),
