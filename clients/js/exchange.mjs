@@ -64,6 +64,7 @@ const PAGE_BYTES = 2 ** 18; // of a hub's page, about
 const AT_ONCE = 1024; // operations that are taken together; an empty replica takes all so
 const MOST_ROUNDS = 8; // in which copies of a store may be in each other's way
 const MOST_PAGES = 16; // of the server, that one of a hub has
+const NOT_KEPT = new Set([REFUSALS["no-such-document"], REFUSALS["not-allowed"]]);
 const WAIT_MS = 5000; // behind the last operation of this replica that another sends, for the next one
 
 export class Exchange {
@@ -232,14 +233,19 @@ export class Exchange {
   async #look(ask, theirs, report) {
     const name = this.#core.name();
     const last = theirs.get(name) ?? 0;
-    const most = () => (this.#core.isShared() ? this.#core.front().get(name) ?? 0 : this.#sent);
-    if (last > most() && this.#forked === Infinity) await this.#findCopied(ask, theirs);
+    if (last > this.#mostSent && this.#forked === Infinity) await this.#findCopied(ask, theirs);
     this.#hasSeenFront = true;
-    if (last > most()) this.#forked = Math.min(this.#forked, most() + 1);
+    if (last > this.#mostSent) this.#forked = Math.min(this.#forked, this.#mostSent + 1);
     else this.#confirmed = Math.max(this.#confirmed, Math.min(last, this.#forked - 1));
     if (this.#forked === Infinity) return;
     const front = new Map(this.#core.front()).set(name, this.#forked - 1);
     for (const op of operationsOf(this.#core.read, front)) this.#refuse(report, op, new Refused(16));
+  }
+
+  /** Up to this counter own operations may have been sent from here. */
+  get #mostSent() {
+    const { isShared, front, name } = this.#core;
+    return isShared() ? front().get(name()) ?? 0 : this.#sent;
   }
 
   /** Takes for its own what a copy has sent of it: what is the same here, up to where the copy says
@@ -278,10 +284,10 @@ export class Exchange {
   /** The server's operations of this name that weren't sent from here beside the own ones.
    *  @param {Ask} ask
    *  @param {Map<string, number>} theirs */
-  async #compared(ask, theirs) {
-    const comparison = new Comparison(this.#core, this.#sent);
+  async #compared(ask, theirs, from = this.#sent) {
+    const comparison = new Comparison(this.#core, from);
     const behind = new Map(theirs);
-    if (this.#sent > 0) behind.set(this.#core.name(), this.#sent);
+    if (from > 0) behind.set(this.#core.name(), from);
     else behind.delete(this.#core.name());
     for await (const { operations } of pagesOf(ask, behind, false)) {
       for (const op of operations) comparison.take(op);
@@ -464,6 +470,52 @@ export class Exchange {
     }
   }
 
+  /** What a hub had of own operations at the end of a generation, beside others' of this name: from
+   *  which counter on it had those, and what copies of the store had made again by then.
+   *  @param {string} past
+   *  @param {Map<string, number>} end
+   *  @param {Answer} answer
+   *  @param {Open} open
+   *  @returns {Promise<{ forked: number, made: Map<string, Id> }>} */
+  async before(past, end, answer, open) {
+    const name = this.#core.name();
+    const last = end.get(name) ?? 0;
+    const own = this.#core.front().get(name) ?? 0;
+    if (Math.min(own, last) <= this.#applied) return { forked: this.#forked, made: new Map() };
+    const ask = asking(answer, past);
+    if (!(await isKept(ask))) {
+      // What can't have been sent from here is taken for another's.
+      const forked = last > this.#mostSent ? this.#mostSent + 1 : Infinity;
+      return { forked: Math.min(this.#forked, forked), made: new Map() };
+    }
+    const { same, copied } = await this.#compared(ask, end, this.#applied);
+    const sure = this.#isOurs(same) ? same : Math.min(same, Math.max(copied, this.#mostSent));
+    const forked = Math.min(this.#forked, sure < last ? sure + 1 : Infinity);
+    return forked > last ? { forked, made: new Map() } : this.#madeBefore(ask, forked, open);
+  }
+
+  /** @param {Ask} ask
+   *  @param {number} forked
+   *  @param {Open} open */
+  async #madeBefore(ask, forked, open) {
+    const name = freshName("unmade"); // what is under it wasn't there
+    const how = {
+      name, forked, sure: Infinity, isOurs: (/** @type {number} */ same) => this.#isOurs(same),
+      stored: this.#copyable, strays: this.#strays, isRemade: true, maySend: false,
+    };
+    const remaking = new Remaking(this.#core, open(freshName("scratch")), how);
+    try {
+      for await (const { operations } of pagesOf(ask, new Map(), true)) {
+        for (const op of operations) remaking.begin(op);
+      }
+      const { ids } = remaking.run();
+      const made = new Map([...ids].filter(([, [, maker]]) => maker !== name));
+      return { forked: Math.min(forked, remaking.same + 1), made };
+    } finally {
+      remaking.free();
+    }
+  }
+
   /** Up to this counter copies of the store may have own operations. */
   get #copyable() {
     const last = this.#core.front().get(this.#core.name()) ?? 0;
@@ -510,6 +562,18 @@ function asking(answer, doc) {
     if (kind === "no") throw new Refused(first, second, third);
     return first;
   };
+}
+
+/** Whether a hub has kept a generation, and lets it be read.
+ *  @param {Ask} ask of that one */
+async function isKept(ask) {
+  try {
+    await ask("open");
+    return true;
+  } catch (error) {
+    if (error instanceof Refused && NOT_KEPT.has(error.number)) return false;
+    throw error;
+  }
 }
 
 /** @param {string} word */

@@ -3,8 +3,9 @@
    began each but the first, and all that comes behind knows of that.
 
    Operations that the hub lacked when their generation ended are made again in the next one: each
-   replica's under a name that is made of its own and of the generation. So copies of one store make the
-   same of them, and the hub has it once. */
+   replica's under a name that is made of its own, of the generation, and of the opening of the store in
+   which they were made. So copies of one store make the same of what they have in common, and the hub
+   has it once. What each has edited since stays its own. */
 
 import { Refused } from "./errors.mjs";
 import { isArray, parse, print } from "./json.mjs";
@@ -34,6 +35,15 @@ import { endOf, textsOf } from "./places.mjs";
  *  @property {Operation[]} lost Operations as they were that aren't made again: those whose places the
  *    next generation hasn't got, and those that would clear what others stored there meanwhile. */
 
+/** @typedef {object} Own What the hub had, at the end of a generation, of a replica's own operations.
+ *  @property {string} name of the replica
+ *  @property {number} forked From this counter on the hub had others of this name.
+ *  @property {Map<string, Id>} made Those that it had all the same, and under which ids.
+ *  @property {import("./copies.mjs").SessionOf} sessionOf */
+
+/** @type {Own} */
+const NOBODY = { name: "", forked: Infinity, made: new Map(), sessionOf: () => "" };
+
 const FIRST = "1";
 const MAKER = /^gen(\d+-[a-z2-7]{10})-1$/;
 const BEGINNER = /^gen\d+-[a-z2-7]{10}-\d+$/;
@@ -58,7 +68,8 @@ export function generationOf(front) {
  *  @typedef {object} Behind
  *  @property {string} doc
  *  @property {() => [string, number][]} front
- *  @property {(front: Iterable<[string, number]>) => Iterable<Operation>} operations */
+ *  @property {(front: Iterable<[string, number]>) => Iterable<Operation>} operations
+ *  @property {(answer: Answer, past: string, end: Map<string, number>) => Promise<Own>} ownBefore */
 
 /** Whether the operation of a line is of a generation: it began that, or knows of its beginning. A
  *  replica that was never synced knows of none, and is of the first. What is no operation is refused
@@ -86,10 +97,10 @@ function parsedLine(line) {
 }
 
 /** What a hub has of a document that is in another generation than a replica: the steps from that one
- *  on, and the log of the last one. Throws UnknownGeneration.
+ *  on, the log of the last one, and what of the replica's own it had. Throws UnknownGeneration.
  *  @param {Answer} answer
  *  @param {Behind} replica
- *  @returns {Promise<{ steps: Step[], log: Operation[] }>} */
+ *  @returns {Promise<{ steps: Step[], log: Operation[], own: Own }>} */
 export async function laterGenerations(answer, replica) {
   const { doc } = replica;
   const generation = generationOf(replica.front());
@@ -100,10 +111,12 @@ export async function laterGenerations(answer, replica) {
     if (at < 0) throw new UnknownGeneration(`the hub has no generation ${generation} of ${doc}`);
     const steps = [];
     for (const name of names.slice(at, -1)) steps.push(await stepOf(answer, doc, name));
-    await addOthers(answer, replica, names.slice(at), steps);
+    const own = steps.length > 0
+      ? await replica.ownBefore(answer, `${doc}/${generation}`, steps[0].end) : NOBODY;
+    await addOthers(answer, replica, own, names.slice(at), steps);
     const log = await logOf(answer, doc, []);
     const now = generationOf(log.map(([, [counter, name]]) => [name, counter]));
-    if (now === names[names.length - 1]) return { steps, log };
+    if (now === names[names.length - 1]) return { steps, log, own };
   }
   throw new Error(`${doc} is renewed again and again`);
 }
@@ -132,14 +145,14 @@ async function stepOf(answer, doc, generation) {
 }
 
 /** Adds what others stored in the generations of the steps, where something is carried that clears.
- *  @param {Answer} answer @param {Behind} replica
+ *  @param {Answer} answer @param {Behind} replica @param {Own} own
  *  @param {string[]} names of the generations @param {Step[]} steps */
-async function addOthers(answer, replica, names, steps) {
+async function addOthers(answer, replica, own, names, steps) {
   const [first] = steps;
-  const unsent = first ? [...replica.operations(first.end)] : [];
+  const unsent = first ? [...replica.operations(ownPart(first.end, own))] : [];
   if (!unsent.some(({ 4: [word] }) => word === "assign" || word === "delete")) return;
   for (const [at, step] of steps.entries()) {
-    const known = at === 0 ? replica.front() : steps[at - 1].start;
+    const known = at === 0 ? ownPart(replica.front(), own) : steps[at - 1].start;
     const past = `${replica.doc}/${names[at]}`;
     try {
       await asked(answer, ["open", past]);
@@ -149,6 +162,17 @@ async function addOthers(answer, replica, names, steps) {
     }
   }
 }
+
+/** A front without what others have made under the replica's name.
+ *  @param {Iterable<[string, number]>} front @param {Own} own
+ *  @returns {[string, number][]} */
+const ownPart = (front, { name, forked }) =>
+  [...front].map(([it, counter]) => [it, it === name ? Math.min(counter, forked - 1) : counter]);
+
+/** Whether an id at the hub is that of another who had the replica's name.
+ *  @param {Own} own @param {Id} id */
+const isOfAnother = ({ name, forked, made }, id) =>
+  id[1] === name && id[0] >= forked && String(made.get(String(id))) !== String(id);
 
 /** The operations of a document that a front doesn't cover.
  *  @param {Answer} answer @param {string} doc @param {Iterable<[string, number]>} front
@@ -171,8 +195,9 @@ async function logOf(answer, doc, front) {
 /** What a log has that the hub lacked at the end of its generation, made again in the last one.
  *  @param {Iterable<Operation>} log
  *  @param {Step[]} steps
+ *  @param {Own} [own]
  *  @returns {Carried} */
-export function carried(log, steps) {
+export function carried(log, steps, own = NOBODY) {
   /** @type {Map<string, Key>} Of an element: what it was inserted behind. */
   let behind = new Map();
   /** @type {{ op: Operation, origin: Operation }[]} */
@@ -183,7 +208,8 @@ export function carried(log, steps) {
   for (const op of log) {
     if (op[4][0] === "insert") behind.set(String(op[1]), op[3][1]);
     if (!first) continue;
-    if (covers(first.end, op[1])) stored.push(op);
+    const isThere = covers(first.end, op[1]) && !isOfAnother(own, op[1]);
+    if (isThere || own.made.has(String(op[1]))) stored.push(op);
     else unsent.push({ op, origin: op });
   }
   /** @type {Map<string, Id> | undefined} */
@@ -191,15 +217,31 @@ export function carried(log, steps) {
   /** @type {Operation[]} */
   const lost = [];
   for (const step of steps) {
-    const again = new Again(step, behind, unsent.length > 0 ? stored.concat(step.others) : []);
+    const maker = step === first ? own : NOBODY;
+    const others = othersOf(step, maker);
+    const again = new Again(step, behind, unsent.length > 0 ? stored.concat(others) : [], maker);
     for (const { op, origin } of unsent) {
-      if (!covers(step.end, op[1]) && !again.take(op, origin)) lost.push(origin);
+      const isThere = step !== first && covers(step.end, op[1]);
+      if (!isThere && !again.take(op, origin)) lost.push(origin);
     }
     const before = ids;
     ids = before ? composed(before, again.ids) : new Map(again.ids);
     [behind, unsent, stored] = [again.behind, again.made, []];
   }
   return { operations: unsent.map(({ op }) => op), ids: ids ?? new Map(), lost };
+}
+
+/** What others stored, told apart from the replica's own operations of these ids, and without those of
+ *  its own that were made again.
+ *  @param {Step} step @param {Own} own
+ *  @returns {Operation[]} */
+function othersOf({ others }, own) {
+  if (own.forked === Infinity) return others;
+  const made = new Set([...own.made.values()].map(String));
+  /** @template {Key} T @param {T} it @returns {T} */
+  const apart = (it) => (isId(it) && isOfAnother(own, it) ? /** @type {any} */ ([it[0], ""]) : it);
+  return others.filter(([, id]) => !made.has(String(id))).map(([, id, front, [path, key], mutation]) =>
+    ["op", apart(id), front, [path.map(([tag, it]) => [tag, apart(it)]), apart(key)], mutation]);
 }
 
 /** @param {Map<string, Id>} first @param {Map<string, Id>} second
@@ -227,20 +269,27 @@ class Again {
   #storedAt = new Map();
   #start;
   #behindBefore;
+  #own;
 
   /** @param {Step} step
    *  @param {Map<string, Key>} behind what elements of the generation were inserted behind
-   *  @param {Operation[]} stored what of that generation was stored */
-  constructor({ start, pairs }, behind, stored) {
+   *  @param {Operation[]} stored what of that generation was stored
+   *  @param {Own} own */
+  constructor({ start, pairs }, behind, stored, own) {
     this.#start = start;
     this.#behindBefore = behind;
+    this.#own = own;
     for (const op of stored) this.#noteStored(op);
     /** @type {Key} */
     let last = 1;
     for (const [old, now, first] of pairs) {
-      this.ids.set(String(old), now);
+      if (!isOfAnother(own, old)) this.ids.set(String(old), now);
       this.behind.set(String(now), first === 0 ? 1 : last);
       last = now;
+    }
+    for (const [old, there] of own.made) {
+      const now = this.ids.get(String(there));
+      if (now) this.ids.set(old, now);
     }
   }
 
@@ -254,8 +303,8 @@ class Again {
     const place = this.#mapped(path, isInsert ? this.#reference(key) : key, isInsert);
     if (!place) return mutation[0] === "delete";
     if (this.#clearsOthers(op)) return false;
-    const name = nameOf("again", print([this.#start[0]?.[0], replica]));
-    const known = this.#known(front, replica, name);
+    const name = this.#nameFor(op[1]);
+    const known = this.#known(front, replica);
     /** @type {Operation} */
     const again = ["op", [nextCounter(known), name], known, place, mutation];
     const [, id] = again;
@@ -268,6 +317,14 @@ class Again {
       this.behind.set(String(id), place[1]);
     }
     return true;
+  }
+
+  /** The name under which an operation is made again: copies of a store that have it use the same.
+   *  @param {Id} id */
+  #nameFor([counter, replica]) {
+    const session = replica === this.#own.name ? this.#own.sessionOf(counter) : "";
+    const what = [this.#start[0]?.[0], replica];
+    return nameOf("again", print(session === "" ? what : [...what, session]));
   }
 
   /** @param {Operation} op */
@@ -297,17 +354,14 @@ class Again {
    *  knew.
    *  @param {Front} front
    *  @param {string} replica
-   *  @param {string} name
    *  @returns {Front} */
-  #known(front, replica, name) {
+  #known(front, replica) {
     const known = new Map(this.#start);
-    for (const [other, counter] of front) {
-      const made = (this.#madeOf.get(other) ?? []).filter(([of]) => of <= counter);
-      const last = made[made.length - 1];
-      if (last) known.set(last[1][1], last[1][0]);
+    for (const [other, last] of [...front, [replica, Infinity]]) {
+      for (const [of, [counter, name]] of this.#madeOf.get(/** @type {string} */ (other)) ?? []) {
+        if (of <= last) known.set(name, Math.max(counter, known.get(name) ?? 0));
+      }
     }
-    const own = this.#madeOf.get(replica);
-    if (own) known.set(name, own[own.length - 1][1][0]);
     return frontPairs(known);
   }
 

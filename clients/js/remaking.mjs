@@ -83,6 +83,9 @@ export class Remaking {
 
   free() { this.#scratch.free(); }
 
+  /** Up to this counter the server has the very same own operations, as far as they were taken. */
+  get same() { return this.#good.get(this.#core.name()) ?? 0; }
+
   /** Takes what the server has, in log order.
    *  @param {any} op */
   begin(op) {

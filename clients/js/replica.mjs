@@ -676,10 +676,11 @@ export class Replica {
    *  @param {string} name That no other replica of the document ever has.
    *  @param {import("./generations.mjs").Step[]} steps from the generation of this replica on
    *  @param {Operation[]} log of the last generation
+   *  @param {import("./generations.mjs").Own} [own] what the hub had of this one's own operations
    *  @returns {{remade: number, lost: string[]}} */
-  renew(name, steps, log) {
+  renew(name, steps, log, own) {
     if (!isName(name)) throw new TypeError(`${name}: 1 to 32 of a-z, 0-9, -`);
-    const { operations, ids, lost } = carried(this.operations(), steps);
+    const { operations, ids, lost } = carried(this.operations(), steps, own);
     const front = new Map(log.map(([, [counter, replica]]) => [replica, counter]));
     const again = operations.filter(([, id]) => !covers(front, id));
     const before = this.lines().slice(1);
@@ -693,6 +694,16 @@ export class Replica {
     this.#beginName();
     this.#events.remade(before, (place) => this.#watchAgain(place, ids));
     return { remade: again.length, lost: lost.map(print) };
+  }
+
+  /** What the hub had of one's own operations at the end of a generation.
+   *  @param {Answer} answer
+   *  @param {string} past what that generation is read as
+   *  @param {Map<string, number>} end what the hub had
+   *  @returns {Promise<import("./generations.mjs").Own>} */
+  async ownBefore(answer, past, end) {
+    const found = await this.#exchange.before(past, end, answer, this.#open);
+    return { name: this.#name, sessionOf: (counter) => this.#sessionOf(counter), ...found };
   }
 
   /** @param {string} name

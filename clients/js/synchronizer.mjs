@@ -238,12 +238,12 @@ export class Synchronizer {
    *  @param {Answer} answer */
   async #renew(answer) {
     const { replica, word, notices } = this.#parts;
-    const { steps, log } = await laterGenerations(answer, replica).catch((error) => {
+    const { steps, log, own } = await laterGenerations(answer, replica).catch((error) => {
       const isUnknown = error instanceof UnknownGeneration;
       if (isUnknown) notices.report({ kind: "server", words: error.message, cause: error });
       throw error;
     });
-    const { lost } = replica.renew(freshName(word), steps, log);
+    const { lost } = replica.renew(freshName(word), steps, log, own);
     this.#given.clear();
     this.#isStale = this.#isDoubtful = true;
     if (lost.length > 0) {

@@ -257,6 +257,75 @@ suite("generations", { concurrency: true }, () => {
     for (const it of both) equal(textOf(it), "axyzb");
   });
 
+  test("copies of one store that are edited apart bring all edits over: each is there once", async () => {
+    const [keeping, other] = [await startDataHub(), await startDataHub(freshFolder(), "--keep-generations", "0")];
+    const ways = ["open", "closed"].flatMap((how) => [
+      { how, before: [], then: [0, 1] }, { how, before: [0], then: [1, 0] }, { how, before: [1], then: [0, 1] },
+      { how, before: [], then: [1, "again", 0] }, { how, before: [0], then: [1, 0], isClosed: true },
+      { how, before: [], then: ["killed", 0, 1] },
+    ]).concat({ how: "closed", before: [0], then: [1, 0], hub: other });
+    await Promise.all(ways.map(async ({ how, before, then, isClosed, hub = keeping }, at) => {
+      const [document, file] = [`apart-${at}`, join(ROOM, `apart-${at}.notes`)];
+      const files = [file, `${file}-copy`];
+      const options = (path) => ({ document, at: hub.lines, store: fileStore(path), word: "ada", isOnline: false });
+      const all = [];
+      const openAt = async (of, path = files[of]) => {
+        files[of] = path;
+        all[of] = await Provider.open(options(path));
+        const it = all[of];
+        atEnd(() => it.close().catch(() => {}));
+      };
+      const edit = ({ replica }, text) => {
+        replica.splice([0, "list"], replica.items([0, "list"]).length, 0, [text]);
+        replica.add([0, "votes"], 1);
+      };
+      const sync = async (it) => {
+        it.goOnline();
+        await it.synced(240);
+      };
+      await openAt(0);
+      all[0].replica.put([0], { list: [], votes: new Counter(0) });
+      await sync(all[0]);
+      all[0].goOffline();
+      edit(all[0], "both");
+      if (how === "closed") await all[0].close();
+      cpSync(files[0], files[1]);
+      if (how === "closed") await openAt(0);
+      await openAt(1);
+      if (!isClosed) for (const it of all) edit(it, "alike"); // what was restored is taken for the same
+      for (const [of, it] of all.entries()) edit(it, `of ${of}`);
+      for (const of of before) {
+        await sync(all[of]);
+        all[of].goOffline();
+      }
+      if (isClosed) for (const of of [0, 1]) {
+        await all[of].close();
+        await openAt(of);
+      }
+      await renew(hub.folder, document);
+      for (const of of then) {
+        if (of === "again") {
+          all[1].goOffline();
+          await renew(hub.folder, document);
+        } else if (of === "killed") { // what it has stored by then goes on, once it has brought its edits over
+          const path = `${files[0]}-killed`;
+          cpSync(files[0], path);
+          await sync(all[0]);
+          await all[0].close();
+          await openAt(0, path);
+        } else await sync(all[of]);
+      }
+      for (const it of [...all, ...all]) await sync(it);
+      for (const { replica, problems } of all) {
+        const words = `${how} ${before} ${then} ${isClosed}`;
+        const texts = [...(isClosed ? [] : ["alike", "alike"]), "both", "of 0", "of 1"];
+        deepEqual(replica.items([0, "list"]).map(([, [text]]) => text).sort(), texts, words);
+        equal(replica.sum([0, "votes"]), texts.length, words);
+        equal(problems.has("renewed"), false, words);
+      }
+    }));
+  });
+
   test("what another tab stored of a later generation isn't mixed with this one's", async () => {
     const hub = await startDataHub();
     const bob = await provider(hub.lines, "bob");

@@ -4,6 +4,7 @@
 import { deepEqual, equal, notEqual } from "node:assert/strict";
 import { test } from "node:test";
 import { carried, composed, generationOf, isOfGeneration } from "../generations.mjs";
+import { nameOf } from "../names.mjs";
 import { openReplica } from "../replica.mjs";
 
 const MAKER = "gen2-aaaaaaaaaa-1";
@@ -62,6 +63,46 @@ test("copies of a log make the same of what they have in common", () => {
   deepEqual(other.operations.slice(0, 2), one.operations);
   const bob = LOG.map((op) => JSON.parse(JSON.stringify(op).replaceAll('"ada"', '"bob"')));
   notEqual(carried(bob, [STEP]).operations[0][1][1], one.operations[0][1][1]);
+});
+
+/** What the hub had of ada's in STEP, by an opening of the store from d on. */
+const ownOf = (word, own = {}) => ({
+  name: "ada", forked: Infinity, made: new Map(), sessionOf: (counter) => (counter < 5 ? "at-one" : word), ...own,
+});
+
+test("what copies of a store have edited apart is under two names, and what they have in common under one", () => {
+  const [one, other] = ["at-one", "at-two"].map((word) => carried(LOG, [STEP], ownOf(word)).operations);
+  // As the Python package makes it, too.
+  const names = ["at-one", "at-two"].map((word) => nameOf("again", `["${MAKER}","ada","${word}"]`));
+  deepEqual(one.map(([, [, name]]) => name), Array(3).fill(names[0]));
+  deepEqual(other.map(([, [, name]]) => name), [names[0], names[1], names[1]]);
+  deepEqual(other[0], one[0]);
+  deepEqual(other[1], inList([5, names[1]], [[names[0], 4], [MAKER, 3]].sort(), [4, names[0]], ["insert", "d"]));
+  // In the second one the first copy has delivered its own.
+  const second = {
+    end: new Map([[MAKER, 3], [names[0], 6]]), start: [[NEXT, 2]], pairs: [[[4, names[0]], [2, NEXT], 0]], others: [],
+  };
+  deepEqual(carried(LOG, [STEP, second], ownOf("at-two")).operations.map(([, , , , mutation]) => mutation), [["insert", "d"]]);
+});
+
+test("what another made under one's name in the generation before isn't taken for one's own", () => {
+  // The hub has another's c and what is in it, and what is ada's d under another id; c was put into the next one.
+  const made = [5, "again"];
+  const end = new Map([["ada", 5], ["again", 5], ["old", 4]]);
+  const pairs = [...STEP.pairs, [[4, "ada"], [4, MAKER]], [made, [5, MAKER]]];
+  const others = [
+    inList([4, "ada"], [["old", 3]], [2, "old"], ["insert", "another's"]), inList(made, [["old", 3]], 1, ["insert", "d"]),
+    ["op", [5, "ada"], [["ada", 4], ["old", 3]], [[...TEXT, ["m", [4, "ada"]]], "k"], ["assign", "another's"]],
+  ];
+  const own = ownOf("at-one", { forked: 4, made: new Map([["5,ada", made]]) });
+  const log = [...LOG.slice(0, 5),
+    inList([6, "ada"], [["ada", 5], ["old", 3]], [4, "ada"], ["assign", "C"]),
+    inList([7, "ada"], [["ada", 6], ["old", 3]], [5, "ada"], ["assign", "D"])];
+  const { operations, ids, lost } = carried(log, [{ ...STEP, end, start: [[MAKER, 5]], pairs, others }], own);
+  const [[, c]] = operations;
+  deepEqual(operations.map(([, , , [, key], mutation]) => [key, mutation]),
+    [[[3, MAKER], ["insert", "c"]], [c, ["assign", "C"]], [[5, MAKER], ["assign", "D"]]]);
+  deepEqual([ids.get("4,ada"), ids.get("5,ada"), lost], [c, [5, MAKER], []]);
 });
 
 test("it goes over several generations, and what came there already isn't made again", () => {

@@ -32,6 +32,17 @@ export class Exchange {
      *  @param {boolean} isRemade Whether own operations that the server lacks are made again.
      *  @returns {Promise<Remaking>} */
     remade(name: string, answer: Answer, open: Open, isRemade: boolean): Promise<Remaking>;
+    /** What a hub had of own operations at the end of a generation, beside others' of this name: from
+     *  which counter on it had those, and what copies of the store had made again by then.
+     *  @param {string} past
+     *  @param {Map<string, number>} end
+     *  @param {Answer} answer
+     *  @param {Open} open
+     *  @returns {Promise<{ forked: number, made: Map<string, Id> }>} */
+    before(past: string, end: Map<string, number>, answer: Answer, open: Open): Promise<{
+        forked: number;
+        made: Map<string, import("./operations.mjs").Id>;
+    }>;
     #private;
 }
 export type Ask = (word: string, ...items: any[]) => Promise<any>;

@@ -5,7 +5,8 @@ export function generationOf(front: Iterable<[string, number]>): string;
  *  @typedef {object} Behind
  *  @property {string} doc
  *  @property {() => [string, number][]} front
- *  @property {(front: Iterable<[string, number]>) => Iterable<Operation>} operations */
+ *  @property {(front: Iterable<[string, number]>) => Iterable<Operation>} operations
+ *  @property {(answer: Answer, past: string, end: Map<string, number>) => Promise<Own>} ownBefore */
 /** Whether the operation of a line is of a generation: it began that, or knows of its beginning. A
  *  replica that was never synced knows of none, and is of the first. What is no operation is refused
  *  as what it is.
@@ -13,19 +14,21 @@ export function generationOf(front: Iterable<[string, number]>): string;
  *  @param {string} generation */
 export function isOfGeneration(line: string, generation: string): boolean;
 /** What a hub has of a document that is in another generation than a replica: the steps from that one
- *  on, and the log of the last one. Throws UnknownGeneration.
+ *  on, the log of the last one, and what of the replica's own it had. Throws UnknownGeneration.
  *  @param {Answer} answer
  *  @param {Behind} replica
- *  @returns {Promise<{ steps: Step[], log: Operation[] }>} */
+ *  @returns {Promise<{ steps: Step[], log: Operation[], own: Own }>} */
 export function laterGenerations(answer: Answer, replica: Behind): Promise<{
     steps: Step[];
     log: import("./operations.mjs").Operation[];
+    own: Own;
 }>;
 /** What a log has that the hub lacked at the end of its generation, made again in the last one.
  *  @param {Iterable<Operation>} log
  *  @param {Step[]} steps
+ *  @param {Own} [own]
  *  @returns {Carried} */
-export function carried(log: Iterable<import("./operations.mjs").Operation>, steps: Step[]): Carried;
+export function carried(log: Iterable<import("./operations.mjs").Operation>, steps: Step[], own?: Own | undefined): Carried;
 /** @param {Map<string, Id>} first @param {Map<string, Id>} second
  *  @returns {Map<string, Id>} */
 export function composed(first: Map<string, import("./operations.mjs").Id>, second: Map<string, import("./operations.mjs").Id>): Map<string, import("./operations.mjs").Id>;
@@ -39,6 +42,7 @@ export type Behind = {
     doc: string;
     front: () => [string, number][];
     operations: (front: Iterable<[string, number]>) => Iterable<import("./operations.mjs").Operation>;
+    ownBefore: (answer: Answer, past: string, end: Map<string, number>) => Promise<Own>;
 };
 export type Answer = import("./exchange.mjs").Answer;
 export type Front = import("./operations.mjs").Front;
@@ -83,4 +87,22 @@ export type Carried = {
      * next generation hasn't got, and those that would clear what others stored there meanwhile.
      */
     lost: import("./operations.mjs").Operation[];
+};
+/**
+ * What the hub had, at the end of a generation, of a replica's own operations.
+ */
+export type Own = {
+    /**
+     * of the replica
+     */
+    name: string;
+    /**
+     * From this counter on the hub had others of this name.
+     */
+    forked: number;
+    /**
+     * Those that it had all the same, and under which ids.
+     */
+    made: Map<string, import("./operations.mjs").Id>;
+    sessionOf: import("./copies.mjs").SessionOf;
 };

@@ -29,6 +29,8 @@ export class Remaking {
     /** Whether the server takes what is made again, as far as is known. */
     maySend: boolean;
     free(): void;
+    /** Up to this counter the server has the very same own operations, as far as they were taken. */
+    get same(): number;
     /** Takes what the server has, in log order.
      *  @param {any} op */
     begin(op: any): void;

@@ -237,11 +237,18 @@ export class Replica {
      *  @param {string} name That no other replica of the document ever has.
      *  @param {import("./generations.mjs").Step[]} steps from the generation of this replica on
      *  @param {Operation[]} log of the last generation
+     *  @param {import("./generations.mjs").Own} [own] what the hub had of this one's own operations
      *  @returns {{remade: number, lost: string[]}} */
-    renew(name: string, steps: import("./generations.mjs").Step[], log: import("./operations.mjs").Operation[]): {
+    renew(name: string, steps: import("./generations.mjs").Step[], log: import("./operations.mjs").Operation[], own?: import("./generations.mjs").Own | undefined): {
         remade: number;
         lost: string[];
     };
+    /** What the hub had of one's own operations at the end of a generation.
+     *  @param {Answer} answer
+     *  @param {string} past what that generation is read as
+     *  @param {Map<string, number>} end what the hub had
+     *  @returns {Promise<import("./generations.mjs").Own>} */
+    ownBefore(answer: Answer, past: string, end: Map<string, number>): Promise<import("./generations.mjs").Own>;
     /** Makes own edits that the old document's server refused again in a new one, whose content
      *  `python -m jcrdt renew` made of the old one's. `map` has the lines that it writes, or pairs of
      *  ids: see renewal.mjs. All are one event and one step of undo of `other`.
