@@ -235,7 +235,7 @@ export async function checkFleet(hubs, writers, { document = "d", away = Infinit
   await until("all show the same, and what was taken", async () => {
     const [first, ...others] = await shown();
     return missing(first).length === 0 && others.every((it) => it.size === first.size && [...it].every((key) => first.has(key)));
-  }, 60).catch(async (error) => {
+  }, 240).catch(async (error) => {
     const all = await shown();
     throw new Error(`${error.message}: ${all.map((keys) => `${keys.size}, without ${missing(keys)}`).join("; ")}`);
   });
