@@ -6,19 +6,10 @@ import { ok } from "node:assert/strict";
 import { test } from "node:test";
 import { command, serversOf } from "./data_hub.mjs";
 import { checkFleet, found, isFounded, lacking, LEASE, RedisServer, startFleetHub, Way, Writers } from "./redis_parts.mjs";
-import { kill, pause, suite } from "./support.mjs";
+import { kill, pause, randomOf, suite } from "./support.mjs";
 
 const SECONDS = process.env.JCRDT_SLOW ? 3600 : 45;
 const SEED = Number(process.env.SEED ?? Date.now() % 2 ** 31);
-
-/** Numbers from 0 to 1 that a seed gives. */
-function randomOf(seed) {
-  let state = seed;
-  return () => {
-    state = (Math.imul(state, 1664525) + 1013904223) >>> 0;
-    return state / 2 ** 32;
-  };
-}
 
 suite("fleet soak", { skip: lacking, timeout: (SECONDS + 1500) * 1000 }, () => {
   test(`three hubs, by the seed ${SEED}`, async (context) => {

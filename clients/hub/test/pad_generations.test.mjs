@@ -9,22 +9,13 @@ import { fileURLToPath } from "node:url";
 import { fileStore } from "../../js/file_store.mjs";
 import { Provider } from "../../js/provider.mjs";
 import { command, freshFolder, serversOf, startNode } from "./data_hub.mjs";
-import { atEnd, kill, pause, PROGRAM, ROOM, suite, until } from "./support.mjs";
+import { atEnd, kill, pause, PROGRAM, randomOf, ROOM, suite, until } from "./support.mjs";
 
 const KILLED = fileURLToPath(new URL("killed_hub.mjs", import.meta.url));
 const STEPS = ["file", "deliver", "map", "record", "renewed"];
 const SECONDS = process.env.JCRDT_SLOW ? 3600 : 60;
 const GENERATIONS = 6; // the first, and five that follow
 const SEED = Number(process.env.SEED ?? Date.now() % 2 ** 31);
-
-/** Numbers from 0 to 1 that a seed gives. */
-function randomOf(seed) {
-  let state = seed;
-  return () => {
-    state = (Math.imul(state, 1664525) + 1013904223) >>> 0;
-    return state / 2 ** 32;
-  };
-}
 
 const textOf = ({ replica }) => replica.items([0, "text"]).map(([, [word]]) => word);
 

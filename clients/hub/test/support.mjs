@@ -102,6 +102,15 @@ export async function kill(child, signal = "SIGKILL") {
   await child.ended;
 }
 
+/** Numbers from 0 to 1 that a seed gives. */
+export function randomOf(seed) {
+  let state = seed;
+  return () => {
+    state = (Math.imul(state, 1664525) + 1013904223) >>> 0;
+    return state / 2 ** 32;
+  };
+}
+
 export const pause = (ms) => new Promise((resume) => setTimeout(resume, ms));
 
 /** Waits until something holds, and returns what it is. */

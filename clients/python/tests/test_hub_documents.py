@@ -367,18 +367,24 @@ def test_copies_of_one_store_bring_an_edit_over_once(hub: Hub, tmp_path: Path, i
         assert client.plain("d", [0]) == {"list": ["one", *due], "votes": jcrdt.Counter(3)}
 
 
+def put_back(client: jcrdt.Session, tmp_path: Path) -> str:
+    """A store as it was once, of whose replica the server has a later edit."""
+    path, backup = str(tmp_path / "ada"), str(tmp_path / "backup")
+    with Store(path, "d", "ada") as store, Replica.stored(store) as me:
+        me.put([0, "list"], ["base"])
+        me.sync(client, "d")
+    shutil.copy(path, backup)
+    with Store(path, "d") as store, Replica.stored(store) as me:
+        me.insert([0, "list", 1], "newer")
+        me.sync(client, "d")
+    return backup
+
+
 @needs_library
 def test_the_id_of_another_in_the_generation_before_is_no_own_edit_of_mine(hub: Hub, tmp_path: Path) -> None:
     """A store that was put back: another one has used its ids there."""
-    path, backup = str(tmp_path / "ada"), str(tmp_path / "backup")
     with opened(hub) as client:
-        with Store(path, "d", "ada") as store, Replica.stored(store) as me:
-            me.put([0, "list"], ["base"])
-            me.sync(client, "d")
-        shutil.copy(path, backup)
-        with Store(path, "d") as store, Replica.stored(store) as me:
-            me.insert([0, "list", 1], "newer")
-            me.sync(client, "d")
+        backup = put_back(client, tmp_path)
         hub.desk.renew("d")
         with Store(backup, "d") as store, Replica.stored(store) as me:
             me.insert([0, "list", 1], "of the backup")
@@ -421,15 +427,8 @@ def test_what_a_copy_has_made_again_before_is_there(hub: Hub, tmp_path: Path) ->
 @needs_library
 def test_a_new_name_in_a_document_that_is_renewed_meanwhile(hub: Hub, tmp_path: Path) -> None:
     """Operations of two generations aren't mixed."""
-    path, backup = str(tmp_path / "ada"), str(tmp_path / "backup")
     with opened(hub) as client:
-        with Store(path, "d", "ada") as store, Replica.stored(store) as me:
-            me.put([0, "list"], ["base"])
-            me.sync(client, "d")
-        shutil.copy(path, backup)
-        with Store(path, "d") as store, Replica.stored(store) as me:
-            me.insert([0, "list", 1], "newer")
-            me.sync(client, "d")
+        backup = put_back(client, tmp_path)
         with Store(backup, "d") as store, Replica.stored(store) as me:
             me.insert([0, "list", 1], "of the backup")
             with pytest.raises(Differs):
