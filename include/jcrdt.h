@@ -73,7 +73,7 @@ extern "C" {
 
 /* The version of this header, MAJOR.MINOR.PATCH. Within one MAJOR no call, form or number changes its
    meaning, and the shared library's name keeps its number: libjcrdt.so.1. */
-#define JCRDT_VERSION "1.2.0"
+#define JCRDT_VERSION "1.3.0"
 
 /* The version of the library: a text that is there as long as the program. It differs from JCRDT_VERSION
    where the program was compiled for another one. */
@@ -112,8 +112,8 @@ uint64_t jcrdt_open(jcrdt *replica, const char *name, size_t name_length, const 
    as `room` holds is put into `out`; jcrdt_again gives all of it.
 
    A refusal, such as ["no",9,"index-past-end"], changes nothing. The requests are assign, insert,
-   delete, add, keys, values, items, conflicts, show, sum, ops, front, held, deliver and forget, and
-   ["cursor",PLACE], which replies ["cursor",[PATH,KEY]]. A place may start with such a cursor in
+   delete, add, keys, values, items, conflicts, show, sum, ops, chains, front, held, deliver, forget,
+   and ["cursor",PLACE], which replies ["cursor",[PATH,KEY]]. A place may start with such a cursor in
    place of 0, as in [[PATH,KEY],2]: so a caret stays at its element.
 
    0 means: the handle owns no replica; or memory lacked for the text, though room for it was made

@@ -86,6 +86,9 @@ if [ -d "$file" ]; then
     fi
   done
   cp -p -- "$file/hub.json" "$room/all/" || fail "$file/hub.json can't be copied"
+  if [ -d "$file/deleted" ]; then
+    cp -Rp -- "$file/deleted" "$room/all/" || fail "$file/deleted can't be copied"
+  fi
   sync -- "$room/all"/* "$room/all" || fail "the copy can't be written to disk"
   mv -T -- "$room/all" "$backup" || fail "$backup can't be made"
   sync -- "$(dirname -- "$backup")" || fail "the folder of $backup can't be written to disk"

@@ -1,7 +1,9 @@
 /* Calls of the library that go wrong: each allocation of a session refused in turn, handles that own nothing or something already, rooms
-   that are too small, and lines that don't fit. Prints one line, or what went wrong, with status 1. */
+   that are too small, lines that don't fit, and what memory stays behind a large reading. Prints one line, or what went wrong, with
+   status 1. */
 
 #include "jcrdt.h"
+#include <malloc.h>
 #include <stdio.h>
 #include <stdlib.h>
 #include <string.h>
@@ -10,6 +12,8 @@
 
 static size_t left; /* so many allocations from now one is refused; 0: none is */
 
+static size_t held; /* how many bytes the library has */
+
 static int refused(void) { return left && --left == 0; }
 
 /* What the library calls, in place of its own three over malloc. */
@@ -17,16 +21,22 @@ typedef struct { size_t ok; void *at; } answer;
 
 answer jcrdt_alloc(size_t size, size_t align) {
   void *at = refused() ? NULL : malloc(size ? size : align);
+  held += at ? malloc_usable_size(at) : 0;
   return (answer){at != NULL, at ? at : (void *)16};
 }
 
 answer jcrdt_realloc(void *old, size_t was, size_t size, size_t align) {
   (void)was;
+  size_t before = malloc_usable_size(old);
   void *at = refused() ? NULL : realloc(old, size ? size : align);
+  held += at ? malloc_usable_size(at) - before : 0;
   return (answer){at != NULL, at ? at : (void *)16};
 }
 
-void jcrdt_dealloc(void *at) { free(at); }
+void jcrdt_dealloc(void *at) {
+  held -= malloc_usable_size(at);
+  free(at);
+}
 
 static const char *requests[] = {
   "[\"assign\",[0,\"l\"],[]]", "[\"insert\",[0,\"l\",0],\"a text that has no room in a scalar by itself\"]",
@@ -102,6 +112,29 @@ static void after_fork(void) {
   jcrdt_close(&replica);
 }
 
+/* The text of a large reading is given again, and goes at the next request. */
+static void large_reading(void) {
+  enum { TEXTS = 100, LONG = 4000 };
+  static char request[LONG + 64], whole[TEXTS * (LONG + 64)];
+  jcrdt replica = JCRDT_CLOSED;
+  jcrdt_fault fault;
+  jcrdt_open(&replica, "ada", 3, "", 0, &fault);
+  for (int n = 0; n < TEXTS; n++) {
+    int begun = sprintf(request, "[\"assign\",[0,\"%d\"],\"", n);
+    memset(request + begun, 'x', LONG);
+    strcpy(request + begun + LONG, "\"]");
+    if (ask(&replica, request, text) == 0) stop("no answer", "an assignment");
+  }
+  ask(&replica, "[\"front\"]", text);
+  size_t before = held, length = jcrdt_ask(&replica, "[\"show\",[0]]", 12, whole, 3);
+  if (length < TEXTS * LONG || held < before + TEXTS * LONG - ROOM) stop("a large reading", "it isn't there");
+  if (jcrdt_again(&replica, whole, sizeof whole) != length || jcrdt_again(&replica, whole, sizeof whole) != length || whole[length - 1] != '\n')
+    stop("a large reading", "it isn't given again");
+  ask(&replica, "[\"front\"]", text);
+  if (held > before) stop("a large reading", "its text stays");
+  jcrdt_close(&replica);
+}
+
 int main(void) {
   size_t n = 0;
   while (session(n) || n == 0) n++;
@@ -133,6 +166,7 @@ int main(void) {
   jcrdt_close(&replica);
   jcrdt_close(&replica);
   after_fork();
+  large_reading();
   printf("the library answers alike with each of %zu allocations refused, and misuse as its header says\n", n - 1);
   return 0;
 }

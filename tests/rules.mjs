@@ -1,6 +1,7 @@
 /* The rules of docs/RULES.md by hand, as an engine of clients/js: what the proved replica is compared
    with. `open` makes one. */
 
+import { createHash } from "node:crypto";
 import { Refused, refusalOf } from "../clients/js/errors.mjs";
 import { isArray, isMap, parse, print } from "../clients/js/json.mjs";
 import { MOST } from "../clients/js/limits.mjs";
@@ -324,6 +325,7 @@ class Rules {
       case "delete": return this.#edit(first, word);
       case "deliver": return this.#deliver(first);
       case "ops": return { reply: [word, this.#ops(first, second)] };
+      case "chains": return { reply: [word, this.#chains(first, second)] };
       case "front": return { reply: [word, this.#front()] };
       case "held": return { reply: ["waiting", this.#waiting().map(({ id, front }) =>
         [id, this.#missing(front ?? NONE)])] };
@@ -418,6 +420,22 @@ class Rules {
 
   /** @returns {Front} */
   #front() { return frontPairs([...this.#last].map(([name, { counter }]) => [name, counter])); }
+
+  /** @param {any} after
+   *  @param {any} front
+   *  @returns {[string, number, string][]} */
+  #chains(after, front) {
+    if (!isFront(after) || !isFront(front)) throw new Refused(2);
+    if (!isAscending(after) || !isAscending(front)) throw new Refused(13);
+    const seen = new Map(after);
+    return front.map(([name, last]) => {
+      const hash = createHash("sha256");
+      for (const { counter, replica, text } of this.#log) {
+        if (replica === name && counter > (seen.get(name) ?? 0) && counter <= last) hash.update(`${text}\n`);
+      }
+      return [name, last, hash.digest("hex")];
+    });
+  }
 
   /** @param {any} front
    *  @param {any} limit

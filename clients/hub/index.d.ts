@@ -134,10 +134,11 @@ export interface Desk {
   list(): Promise<DocumentState[]>;
   /** Makes a document. A name has 1 to 32 of a-z, 0-9 and -. */
   create(name: string): Promise<void>;
-  /** Gives a document another name. Clients that have it open are dropped. */
+  /** Gives a document another name. Clients that have it open are dropped. With `redis` it is refused. */
   rename(name: string, other: string): Promise<void>;
   /** Puts a document into the bin, and resolves what it is called there: NAME.TIME. Clients that have
-   *  it open are dropped. */
+   *  it open are dropped. With `redis` only its home does: then all hubs do, and its name isn't used
+   *  again. */
   delete(name: string): Promise<string>;
   /** What is in the bin, oldest first. It stays there until somebody removes it. */
   deleted(): Promise<string[]>;

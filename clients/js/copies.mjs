@@ -7,13 +7,15 @@
 
 import { operationsOf } from "./followers.mjs";
 import { print } from "./json.mjs";
-import { isId } from "./operations.mjs";
+import { isFront, isId } from "./operations.mjs";
 
 /** @typedef {import("./exchange.mjs").Core} Core */
 /** @typedef {import("./operations.mjs").Cursor} Cursor */
 /** @typedef {import("./operations.mjs").Operation} Operation */
-/** @typedef {(counter: number) => string} SessionOf The word of the opening of the store in which an
- *    own operation was made; none where the store has none. */
+/** @typedef {{ after: number, word: string }[]} Sessions Words of openings of a store, each from behind
+ *    a counter on. */
+/** @typedef {(counter: number, name?: string) => string} SessionOf The word of the opening of the store
+ *    in which an own operation was made, or one of a name before; none where the store has none. */
 
 const WORDS = "jcrdt copy of";
 
@@ -26,6 +28,18 @@ const WORDS = "jcrdt copy of";
 export const copyPlace = (name, counter, session, origin) =>
   [0, [WORDS, name, counter, session, origin].filter((it) => it !== "").join(" ")];
 
+/** Operations that say so at these places, before all others of a name.
+ *  @param {string} name
+ *  @param {Cursor[]} places
+ *  @returns {Operation[]} */
+export const sayings = (name, places) => places.map(([, key], at) =>
+  ["op", [at + 1, name], at > 0 ? [[name, at]] : [], [[["m", 0]], /** @type {string} */ (key)], ["delete"]]);
+
+/** Whether an operation says that something is a copy.
+ *  @param {Operation} op */
+export const isSaying = ([, , , [path, key], [word]]) =>
+  path.length === 1 && word === "delete" && typeof key === "string" && key.startsWith(`${WORDS} `);
+
 /** Up to which operation of a replica a copy has them, where an operation says so; else 0. One that
  *  was copied in another opening has others, however alike.
  *  @param {any} op
@@ -34,6 +48,9 @@ export const copyPlace = (name, counter, session, origin) =>
 function copiedBy(op, name, sessionOf) {
   const [path, key] = op?.[3] ?? [];
   if (path?.length !== 1 || typeof key !== "string" || op[4]?.[0] !== "delete") return 0;
+  // One that was made again speaks for a copy that sends nothing more under this name.
+  const isAhead = isFront(op[2]) && op[2].every(([maker]) => maker === op[1][1]);
+  if (op[1][1] !== name && !isAhead) return 0;
   const start = `${WORDS} ${name} `;
   if (!key.startsWith(start)) return 0;
   const [number, , origin = ""] = key.slice(start.length).split(" ");
@@ -47,6 +64,8 @@ export class Comparison {
   same;
   /** Up to this counter a copy says that it has them. */
   copied = 0;
+  /** Up to this counter the server has any of this name. */
+  last = 0;
   #isSame = true;
   #core;
   #own;
@@ -59,12 +78,20 @@ export class Comparison {
     this.#own = ownBehind(core, from);
   }
 
-  /** Takes the server's next operation. Others' are nothing to it.
+  /** Hears what an operation says, whoever made it.
+   *  @param {any} op */
+  hear(op) {
+    this.copied = Math.max(this.copied, copiedBy(op, this.#core.name(), this.#core.sessionOf));
+  }
+
+  /** Takes the server's next operation.
    *  @param {any} op */
   take(op) {
     const name = this.#core.name();
-    if (!isId(op?.[1]) || op[1][1] !== name) return;
-    this.copied = Math.max(this.copied, copiedBy(op, name, this.#core.sessionOf));
+    if (!isId(op?.[1])) return;
+    this.hear(op);
+    if (op[1][1] !== name) return;
+    [this.last] = op[1];
     if (!this.#isSame) return;
     const { value } = this.#own.next();
     this.#isSame = value !== undefined && print(op) === print(value);

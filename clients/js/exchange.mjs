@@ -1,5 +1,6 @@
 /* The exchange of a replica with servers. */
 
+import { Compared, firstDifference } from "./chains.mjs";
 import { Comparison, copyPlace } from "./copies.mjs";
 import { Away, Refused, refusalOf } from "./errors.mjs";
 import { operationsOf } from "./followers.mjs";
@@ -30,7 +31,10 @@ import { Remaking } from "./remaking.mjs";
 /** @typedef {object} Report
  *  @property {number} taken Operations that the replica has logged.
  *  @property {number} given Operations that the server has logged.
- *  @property {Refusal[]} refused Operations that were refused, here or there: at most 1,000. */
+ *  @property {Refusal[]} refused Operations that were refused, here or there: at most 1,000.
+ *  @property {import("./chains.mjs").Difference} [differs] The first operation that the server has
+ *    another one of than this replica: nothing was exchanged then, and where only a refusal shows it,
+ *    nothing more. One of another replica comes first. */
 
 /** @typedef {import("./remaking.mjs").Remade} Remade */
 
@@ -53,6 +57,9 @@ import { Remaking } from "./remaking.mjs";
  *  @property {() => boolean} wasOpen Whether what was restored may be that of a program that goes on.
  *  @property {() => boolean} isNew Whether its name is of this opening of the store.
  *  @property {(place: import("./operations.mjs").Cursor) => void} say Deletes what isn't there.
+ *  @property {(count: number) => Operation[]} last The last ones of the log.
+ *  @property {() => void} sayFormers Says so of names before this one, if it has said nothing.
+ *  @property {() => ReadonlyMap<string, any>} formers These names.
  *  @property {import("./copies.mjs").SessionOf} sessionOf
  *  @property {(count: number) => void} fetched Is called with the operations that came, once more
  *    have come, and are to be taken. */
@@ -63,8 +70,13 @@ const MOST_REFUSED = 1000; // operations of a report
 const PAGE_BYTES = 2 ** 18; // of a hub's page, about
 const AT_ONCE = 1024; // operations that are taken together; an empty replica takes all so
 const MOST_ROUNDS = 8; // in which copies of a store may be in each other's way
+const MOST_TURNS = 1000; // in which something is edited while what was before is made again
 const MOST_PAGES = 16; // of the server, that one of a hub has
+/** @type {Set<number>} */
+const IS_ANOTHER = new Set([REFUSALS.forked, REFUSALS["id-conflict"]]);
+/** @type {Set<number>} */
 const NOT_KEPT = new Set([REFUSALS["no-such-document"], REFUSALS["not-allowed"]]);
+const HAS_LOST = "the server has lost what it had a moment ago: it is asked again";
 const WAIT_MS = 5000; // behind the last operation of this replica that another sends, for the next one
 
 export class Exchange {
@@ -74,10 +86,16 @@ export class Exchange {
   #sent; // up to this counter they were sent, perhaps
   #underWay = 0; // up to this counter replies to them are due
   #applied = 0; // up to this counter a server has logged them, as they were sent
+  #checked = 0; // up to this counter the server over this connection has them, and they are the same
+  /** @type {Answer | undefined} The connection that is meant by that. */
+  #over;
+  /** @type {WeakMap<Answer, number>} The same of other connections. */
+  #checkedOver = new WeakMap();
   #confirmed = 0; // up to this counter a server has them, and they are the same
   #ours; // up to this counter a server has them, and no other program had others by then
   #forked = Infinity; // from this counter on others have the ids of own operations, or may
   #hasSeenFront = false;
+  #copied = 0; // up to this counter a copy of the store says that it has them
   /** @type {Set<number>} Own operations that a server has logged behind another's of this name. */
   #strays = new Set();
   #hasSaid = false; // whether a copy has said up to which operation it may be one, or needn't
@@ -85,6 +103,8 @@ export class Exchange {
   /** Another sends own operations: the last one, and when that was seen. */
   #foreign = { last: 0, seenAt: 0 };
   #isLogging = false; // whether the server has logged an own one in this exchange
+  /** @type {WeakMap<Answer, Compared>} Up to where a server has had the same as this replica. */
+  #sides = new WeakMap();
   /** @type {Followed | undefined} */
   #followed;
   /** @type {{answer: Answer, done: Promise<Report>} | undefined} The last one that waits. */
@@ -124,23 +144,87 @@ export class Exchange {
    *  @param {Iterable<[string, number]>} [front] */
   follow(answer, front) {
     this.#followed = { answer, theirs: new Map(front ?? []), isKnown: front !== undefined };
+    if (front) this.#noteLoss(answer, this.#followed.theirs);
+  }
+
+  /** A server that was killed may lack what it had logged, and another program may have sent others of
+   *  this name by then. So over each connection own operations are compared anew.
+   *  @param {Answer} answer
+   *  @param {Map<string, number>} theirs */
+  #noteLoss(answer, theirs) {
+    const last = theirs.get(this.#core.name()) ?? 0;
+    if (answer !== this.#over) {
+      if (this.#over) this.#checkedOver.set(this.#over, this.#checked);
+      [this.#over, this.#checked] = [answer, this.#checkedOver.get(answer) ?? 0];
+    }
+    this.#lower(last);
+  }
+
+  /** Notes that a server has own operations up to a counter alone.
+   *  @param {number} last */
+  #lower(last) {
+    this.#checked = Math.min(this.#checked, last);
+    if (last >= this.#applied) return;
+    [this.#applied, this.#ours] = [last, Math.min(this.#ours, last)];
+  }
+
+  /** @param {Answer} answer */
+  #comparedBy(answer) {
+    const compared = this.#sides.get(answer) ?? new Compared();
+    this.#sides.set(answer, compared);
+    return compared;
   }
 
   /** Takes what a server that is followed has logged. Returns whether nothing differs in it now:
-   *  else the caller is to `sync`.
+   *  else the caller is to `sync`. Before a server was compared nothing is taken.
    *  @param {Answer} answer
    *  @param {Operation[]} operations Each has an id, at least. */
   logged(answer, operations) {
     const followed = this.#followedBy(answer);
     if (!followed) return false;
-    for (const [, id] of operations) raise(followed.theirs, id);
+    const isAll = this.#comparedBy(answer).isSame && this.#isAllSame(answer, followed, operations);
+    // What isn't known to be the same isn't taken for what is here: the next exchange compares it.
+    followed.isKnown &&= isAll;
+    return isAll;
+  }
+
+  /** @param {Answer} answer
+   *  @param {Followed} followed
+   *  @param {Operation[]} operations */
+  #isAllSame(answer, followed, operations) {
     const name = this.#core.name();
     const own = operations.filter(([, [, replica]]) => replica === name);
     const isOwn = own.every((op) => this.#hearOwn(op));
-    const ready = this.#readyOf(operations.filter((op) => !own.includes(op)));
+    for (const op of own) if (op[1][0] <= this.#applied) this.#isSame(answer, op);
+    const others = operations.filter(([, [, replica]]) => replica !== name);
+    const compared = this.#comparedBy(answer);
+    const before = this.#core.front();
+    if (others.some((op) => compared.lacks(op, before))) return false;
+    const ready = this.#readyOf(others);
     const { refused } = this.#core.take(ready);
+    if (refused.length === 0) for (const [, id] of ready) this.#noteSame(answer, id);
     const front = this.#core.front();
-    return isOwn && refused.length === 0 && operations.every(([, id]) => covers(front, id));
+    const isAll = isOwn && refused.length === 0 && operations.every(([, id]) => covers(front, id))
+      && others.every((op) => this.#isSame(answer, op));
+    if (isAll) for (const [, id] of operations) raise(followed.theirs, id);
+    return isAll;
+  }
+
+  /** Whether an operation that a server has logged is the very same as here, and all before it of its
+   *  replica.
+   *  @param {Answer} answer
+   *  @param {Operation} op */
+  #isSame(answer, op) {
+    const { same, isKnown } = this.#comparedBy(answer);
+    const [, [counter, name], front] = op;
+    if (!isKnown || counter <= (same.get(name) ?? 0)) return true;
+    if (!isArray(front)) return false;
+    const before = front.find(([it]) => it === name)?.[1] ?? 0;
+    if (before > (same.get(name) ?? 0)) return false;
+    const [here] = operationsOf(this.#core.read, new Map(this.#core.front()).set(name, before));
+    if (!here || print(here) !== print(op)) return false;
+    this.#noteSame(answer, op[1]);
+    return true;
   }
 
   /** Whether an own operation that a server has logged is this replica's own, as it was sent.
@@ -185,11 +269,15 @@ export class Exchange {
     /** @type {Report} */
     const report = { taken: 0, given: 0, refused: [] };
     const ask = asking(answer, this.#core.doc);
+    const isHub = this.#followedBy(answer) !== undefined; // it may begin anew meanwhile
     const theirs = await this.#frontOf(answer, ask);
+    this.#noteLoss(answer, theirs);
     await this.#look(ask, theirs, report);
+    if (await this.#differs(answer, ask, theirs, report)) return report;
     this.#sayWhatIsLacking(theirs);
     const isFollowed = this.#followedBy(answer) !== undefined;
-    if (!isFollowed || !this.#hasAll(theirs)) await this.#take(ask, answer, theirs, report);
+    if (!isFollowed || !this.#hasAll(theirs)) await this.#take(ask, answer, theirs, report, isHub);
+    if (report.differs) return report;
     await this.#give(ask, answer, theirs, report);
     return report;
   }
@@ -242,6 +330,102 @@ export class Exchange {
     for (const op of operationsOf(this.#core.read, front)) this.#refuse(report, op, new Refused(16));
   }
 
+  /** Compares what both have, before anything is given or taken. Resolves whether something differs.
+   *  @param {Answer} answer
+   *  @param {Ask} ask
+   *  @param {Map<string, number>} theirs
+   *  @param {Report} report */
+  async #differs(answer, ask, theirs, report) {
+    const found = await this.#differenceOf(answer, ask, theirs) ?? await this.#shownOf(answer, ask, theirs);
+    if (!found) return false;
+    report.differs = found;
+    const { name, counter } = found;
+    if (name === this.#core.name()) this.#fork(counter);
+    const refusal = new Refused(this.isOwnName(name) ? REFUSALS["own-name"] : REFUSALS["id-conflict"]);
+    const behind = new Map(this.#core.front()).set(name, counter - 1);
+    for (const op of operationsOf(this.#core.read, behind)) this.#refuse(report, op, refusal);
+    return true;
+  }
+
+  /** The first operation that differs, as digests of both sides show it: of another replica, where one
+   *  of these differs. Throws Away where the server has lost what was to be compared.
+   *  @param {Answer} answer
+   *  @param {Ask} ask
+   *  @param {Map<string, number>} theirs */
+  async #differenceOf(answer, ask, theirs) {
+    const { name, front, read } = this.#core;
+    /** @param {Map<string, number>} mine */
+    const first = (mine) => firstDifference((after, last) => read("chains", after, last),
+      (after, last) => ask("chains", after, last), [mine, theirs], this.#comparedBy(answer));
+    const mine = new Map(front());
+    if (this.#forked < Infinity) mine.delete(name()); // that is known
+    const found = await first(mine);
+    if (!found) return void (this.#comparedBy(answer).isKnown && this.#noteOwnSame(theirs));
+    await this.#checkLoss(answer, ask, theirs);
+    if (!this.isOwnName(found.name)) return found;
+    return (await first(new Map([...mine].filter(([it]) => !this.isOwnName(it))))) ?? found;
+  }
+
+  /** Throws Away where the server has less than it had: a server that was killed since differs by that.
+   *  @param {Answer} answer
+   *  @param {Ask} ask
+   *  @param {Map<string, number>} before */
+  async #checkLoss(answer, ask, before) {
+    const now = new Map(checkedFront(await ask("front")));
+    if ([...before].every(([name, counter]) => covers(now, [counter, name]))) return;
+    if (this.#followedBy(answer)) this.follow(answer);
+    throw new Away(HAS_LOST);
+  }
+
+  /** Notes that a server has the own operations as they are here, as far as it has them.
+   *  @param {Map<string, number>} theirs */
+  #noteOwnSame(theirs) {
+    if (this.#forked < Infinity) return; // they weren't compared
+    this.#confirm(Math.min(theirs.get(this.#core.name()) ?? 0, this.#mostSent), false);
+  }
+
+  /** What the refusals of a server show that gives no digests: of the last operations of others, one of
+   *  each replica and all of names before this one, it refuses those in whose place it has others. These
+   *  were logged behind a kill, which took the former ones.
+   *  @param {Answer} answer
+   *  @param {Ask} ask
+   *  @param {Map<string, number>} theirs */
+  async #shownOf(answer, ask, theirs) {
+    const compared = this.#comparedBy(answer);
+    if (compared.isKnown || compared.isTried) return compared.isKnown ? undefined : compared.shown;
+    const { name, formers } = this.#core;
+    const there = this.#core.last(MOST.page).filter(({ 1: id }) => id[1] !== name() && covers(theirs, id));
+    const lastOf = new Map(there.map((op) => [op[1][1], op]));
+    const last = there.filter((op) => formers().has(op[1][1]) || lastOf.get(op[1][1]) === op);
+    const replies = await Promise.all(last.map((op) => ask("deliver", op).catch((error) => error)));
+    for (const [at, reply] of replies.entries()) {
+      if (reply instanceof Error && !(reply instanceof Refused)) throw reply;
+      if (reply instanceof Refused) this.#noteShown(compared, last[at][1], reply);
+    }
+    compared.isTried = true;
+    return compared.shown;
+  }
+
+  /** Notes of a refusal whether two operations have an id: of other replicas' the first one.
+   *  @param {Compared} compared
+   *  @param {Id | undefined} id
+   *  @param {Refused} refusal */
+  #noteShown(compared, id, { number }) {
+    if (!id || !IS_ANOTHER.has(number)) return;
+    const [counter, name] = id;
+    const isOwn = compared.shown && this.isOwnName(compared.shown.name);
+    if (!compared.shown || (isOwn && !this.isOwnName(name))) compared.show({ name, counter });
+  }
+
+  /** Whether a name is this replica's, or was that of one of which its store is a copy.
+   *  @param {string} name */
+  isOwnName(name) { return name === this.#core.name() || this.#core.formers().has(name); }
+
+  /** Notes that a server has what is here of a replica, up to an operation.
+   *  @param {Answer} answer
+   *  @param {Id} id */
+  #noteSame(answer, [counter, name]) { this.#comparedBy(answer).note(name, counter); }
+
   /** Up to this counter own operations may have been sent from here. */
   get #mostSent() {
     const { isShared, front, name } = this.#core;
@@ -254,7 +438,8 @@ export class Exchange {
    *  @param {Map<string, number>} theirs */
   async #findCopied(ask, theirs) {
     const last = theirs.get(this.#core.name()) ?? 0;
-    const { same, copied } = await this.#compared(ask, theirs);
+    const { same, copied, last: there } = await this.#compared(ask);
+    if (there < last) throw new Away(HAS_LOST);
     const isOurs = this.#isOurs(same);
     const sure = isOurs ? same : Math.min(same, copied);
     if (sure > this.#sent) {
@@ -281,17 +466,20 @@ export class Exchange {
     }
   }
 
-  /** The server's operations of this name that weren't sent from here beside the own ones.
-   *  @param {Ask} ask
-   *  @param {Map<string, number>} theirs */
-  async #compared(ask, theirs, from = this.#sent) {
+  /** The server's operations of this name that weren't sent from here beside the own ones, and what
+   *  copies say.
+   *  @param {Ask} ask */
+  async #compared(ask, from = this.#sent) {
+    const { name, front, read } = this.#core;
     const comparison = new Comparison(this.#core, from);
-    const behind = new Map(theirs);
-    if (from > 0) behind.set(this.#core.name(), from);
-    else behind.delete(this.#core.name());
+    for (const op of operationsOf(read, [])) comparison.hear(op);
+    const behind = new Map(front());
+    if (from > 0) behind.set(name(), from);
+    else behind.delete(name());
     for await (const { operations } of pagesOf(ask, behind, false)) {
       for (const op of operations) comparison.take(op);
     }
+    this.#copied = Math.max(this.#copied, comparison.copied);
     return comparison;
   }
 
@@ -311,6 +499,9 @@ export class Exchange {
 
   /** @param {Map<string, number>} theirs */
   #sayWhatIsLacking(theirs) {
+    const { formers, front, sayFormers } = this.#core;
+    const isLacking = (/** @type {string} */ name) => (theirs.get(name) ?? 0) < (front().get(name) ?? 0);
+    if ([...formers().keys()].some(isLacking)) sayFormers();
     if (this.#forked < Infinity) return;
     if ((theirs.get(this.#core.name()) ?? 0) < this.#stored) this.say();
   }
@@ -321,27 +512,52 @@ export class Exchange {
   #refuse(report, op, { number, name }) {
     if (report.refused.length >= MOST_REFUSED) return;
     const line = typeof op === "string" ? op : print(op);
-    const own = (typeof op === "string" ? idOf(op) : op[1])?.[1] === this.#core.name();
+    const own = this.isOwnName((typeof op === "string" ? idOf(op) : op[1])?.[1] ?? "");
     report.refused.push({ line: line.slice(0, MOST.line), number, name, own });
   }
 
   /** @param {Ask} ask
    *  @param {Answer} answer
    *  @param {Map<string, number>} theirs
-   *  @param {Report} report */
-  async #take(ask, answer, theirs, report) {
-    const isFollowed = this.#followedBy(answer) !== undefined;
+   *  @param {Report} report
+   *  @param {boolean} isHub Whether it is a hub that has pages of its own */
+  async #take(ask, answer, theirs, report, isHub) {
     const front = this.#core.front();
-    const pages = pagesOf(ask, front, isFollowed);
+    const pages = pagesOf(ask, front, isHub);
     const came = counted(pages, this.#core.fetched);
     for await (const some of joined(came, front.size > 0 ? AT_ONCE : Infinity)) {
+      if (front.size > 0 && (await this.#differsBehind(answer, ask, theirs, some, report))) return;
       for (const { last } of some) {
         for (const [name, counter] of last) this.#noteTheirs(answer, theirs, [counter, name]);
       }
       const { taken, refused } = this.#takePages(some);
       report.taken += taken;
-      for (const { line, refusal } of refused) this.#refuse(report, line, refusal);
+      for (const { last } of refused.length > 0 ? [] : some) {
+        for (const [name, counter] of last) this.#noteSame(answer, [counter, name]);
+      }
+      for (const { line, refusal } of refused) {
+        this.#refuse(report, line, refusal);
+        this.#noteShown(this.#comparedBy(answer), idOf(line), refusal);
+      }
     }
+    const { shown } = this.#comparedBy(answer);
+    if (shown) report.differs = shown;
+  }
+
+  /** Compares what came to the server since it said its front, where pages depend on that. Resolves
+   *  whether something differs.
+   *  @param {Answer} answer
+   *  @param {Ask} ask
+   *  @param {Map<string, number>} theirs
+   *  @param {Page[]} pages
+   *  @param {Report} report */
+  async #differsBehind(answer, ask, theirs, pages, report) {
+    const [compared, front] = [this.#comparedBy(answer), this.#core.front()];
+    const lacking = pages.flatMap(({ operations }) => operations).filter((op) => compared.lacks(op, front));
+    if (lacking.length === 0) return false;
+    const now = new Map(theirs);
+    for (const [, , known] of lacking) for (const [name, last] of known) raise(now, [last, name]);
+    return this.#differs(answer, ask, now, report);
   }
 
   /** @param {Page[]} pages
@@ -364,8 +580,10 @@ export class Exchange {
     if (this.#forked < Infinity) barred.set(name, this.#forked);
     const unsure = this.#unsure(theirs);
     /** @param {Operation[]} page */
-    const give = (page) => this.#givePage(ask, page, barred, report,
-      (id) => this.#noteTheirs(answer, theirs, id));
+    const give = (page) => this.#givePage(ask, page, barred, report, (id) => {
+      this.#noteTheirs(answer, theirs, id);
+      this.#noteSame(answer, id);
+    });
     if (unsure.length > 0 && (await give(unsure))) return;
     const lacked = operationsOf(this.#core.read, theirs);
     this.#isLogging = false;
@@ -375,14 +593,14 @@ export class Exchange {
     }
   }
 
-  /** The last own operations that the server has and that aren't confirmed: these go first. It
-   *  refuses them if it has others of this name.
+  /** The last own operations that the server has and that weren't compared over this connection: these
+   *  go first. It refuses them if it has others of this name.
    *  @param {Map<string, number>} theirs */
   #unsure(theirs) {
     const name = this.#core.name();
     const last = Math.min(theirs.get(name) ?? 0, this.#forked - 1);
-    if (last <= this.#applied) return [];
-    const from = Math.max(this.#applied, last - MOST.page);
+    if (last <= this.#checked) return [];
+    const from = Math.max(this.#checked, last - MOST.page);
     const front = new Map(this.#core.front()).set(name, from);
     return [...operationsOf(this.#core.read, front)].filter(([, [counter]]) => counter <= last);
   }
@@ -395,19 +613,12 @@ export class Exchange {
    *  @param {(id: Id) => void} given Is called with what the server has now. */
   async #givePage(ask, page, barred, report, given) {
     const before = this.#sent;
-    for (const [, [counter, replica]] of page) {
-      if (replica === this.#core.name()) this.#sent = Math.max(this.#sent, counter);
-    }
-    this.#underWay = this.#sent;
-    const sent = page.map((op) => ask("deliver", op).catch((/** @type {Error} */ error) => error));
-    const replies = await Promise.all(sent);
-    this.#underWay = 0;
+    const replies = await this.#sendPage(ask, page, before);
     for (const [at, reply] of replies.entries()) {
       if (reply instanceof Error && !(reply instanceof Refused)) throw reply;
       const [, [counter, replica]] = page[at];
       const isOwn = replica === this.#core.name();
-      const isNew = isOwn && reply === undefined && counter > before && !this.#core.isShared()
-        && !this.#isOurs(counter);
+      const isNew = this.#isStrange(page[at], reply, before);
       if (isNew && page.length === 1 && this.#core.isFiled()) {
         this.#sent = before; // it came from another: the next exchange looks who that is
         this.#waitFor(counter);
@@ -416,7 +627,7 @@ export class Exchange {
       if (refusal) {
         this.#refuse(report, page[at], refusal);
         barred.set(replica, Math.min(counter, barred.get(replica) ?? Infinity));
-        if (isOwn && NAME_USED_TWICE.has(refusal.number)) this.#forked = Math.min(this.#forked, counter);
+        if (isOwn && NAME_USED_TWICE.has(refusal.number)) this.#fork(counter);
       } else {
         if (typeof reply === "number") report.given++;
         this.#isLogging ||= isOwn && typeof reply === "number";
@@ -428,29 +639,66 @@ export class Exchange {
     return replies.some((reply) => reply instanceof Refused && isForAll(reply));
   }
 
+  /** Delivers operations, and resolves what the server answers to each.
+   *  @param {Ask} ask
+   *  @param {Operation[]} page
+   *  @param {number} before Up to this own counter they were sent, perhaps.
+   *  @returns {Promise<any[]>} */
+  async #sendPage(ask, page, before) {
+    for (const [, [counter, replica]] of page) {
+      if (replica === this.#core.name()) this.#sent = Math.max(this.#sent, counter);
+    }
+    this.#underWay = this.#sent;
+    const sent = page.map((op) => ask("deliver", op).catch((/** @type {Error} */ error) => error));
+    const replies = await Promise.all(sent);
+    this.#underWay = 0;
+    if (page.some((op, at) => this.#isStrange(op, replies[at], before))) await this.#compared(ask, before);
+    return replies;
+  }
+
+  /** Whether a server had an own operation that wasn't sent from here, as far as is known, and not by a
+   *  copy of the store.
+   *  @param {Operation} op
+   *  @param {any} reply
+   *  @param {number} before */
+  #isStrange([, [counter, replica]], reply, before) {
+    const { name, isShared } = this.#core;
+    return reply === undefined && replica === name() && counter > Math.max(before, this.#copied)
+      && !isShared() && !this.#isOurs(counter);
+  }
+
+  /** Others have the ids of own operations from a counter on.
+   *  @param {number} counter */
+  #fork(counter) {
+    this.#forked = Math.min(this.#forked, counter);
+    this.#lower(counter - 1);
+  }
+
   /** @param {number} counter
    *  @param {boolean} isApplied */
   #confirm(counter, isApplied) {
     this.#confirmed = Math.max(this.#confirmed, counter);
+    this.#checked = Math.max(this.#checked, counter);
     if (isApplied || counter <= this.#stored) this.#applied = Math.max(this.#applied, counter);
     if (isApplied) this.#ours = Math.max(this.#ours, counter);
   }
 
-  /** What to go on with under a new name: `run` of it gives that at once, and `free` ends it. What
-   *  was restored from a store is made again the same by each copy of the store, and is at the
-   *  server by then.
+  /** Goes on under a new name: `goOn` is called with what to go on with. What copies of the store may
+   *  have is made again the same by each of them, and is at the server by then.
+   *  @template T
    *  @param {string} name
    *  @param {Answer} answer
    *  @param {Open} open
    *  @param {boolean} isRemade Whether own operations that the server lacks are made again.
-   *  @returns {Promise<Remaking>} */
-  async remade(name, answer, open, isRemade) {
+   *  @param {(remaking: Remaking) => T} goOn
+   *  @returns {Promise<T>} */
+  async remade(name, answer, open, isRemade, goOn) {
     const ask = asking(answer, this.#core.doc);
     for (let round = 1, maySend = true; ; round++) {
       const sure = Math.max(this.#applied, this.#stored);
       const forked = await this.#forkedAt(ask);
       const scratch = open(freshName("scratch"));
-      const stored = isRemade ? this.#copyable : 0;
+      const stored = () => (isRemade ? this.#copyable : 0);
       const isOurs = (/** @type {number} */ same) => this.#isOurs(same);
       const how = { name, forked, sure, isOurs, stored, strays: this.#strays, isRemade, maySend };
       /** @type {Remaking} */
@@ -460,13 +708,15 @@ export class Exchange {
           for (const op of operations) remaking.begin(op);
         }
         this.#checkGeneration(scratch);
-        if (await remaking.send(ask)) return remaking;
+        let isLogged = true;
+        for (let turn = 0; isLogged && remaking.isBehind && turn < MOST_TURNS; turn++) {
+          isLogged = await remaking.send(ask);
+        }
+        if (isLogged) return goOn(remaking); // at once: nothing is edited in between
         maySend = remaking.maySend && round < MOST_ROUNDS;
-      } catch (error) {
+      } finally {
         remaking.free();
-        throw error;
       }
-      remaking.free();
     }
   }
 
@@ -488,7 +738,7 @@ export class Exchange {
       const forked = last > this.#mostSent ? this.#mostSent + 1 : Infinity;
       return { forked: Math.min(this.#forked, forked), made: new Map() };
     }
-    const { same, copied } = await this.#compared(ask, end, this.#applied);
+    const { same, copied } = await this.#compared(ask, this.#applied);
     const sure = this.#isOurs(same) ? same : Math.min(same, Math.max(copied, this.#mostSent));
     const forked = Math.min(this.#forked, sure < last ? sure + 1 : Infinity);
     return forked > last ? { forked, made: new Map() } : this.#madeBefore(ask, forked, open);
@@ -501,7 +751,7 @@ export class Exchange {
     const name = freshName("unmade"); // what is under it wasn't there
     const how = {
       name, forked, sure: Infinity, isOurs: (/** @type {number} */ same) => this.#isOurs(same),
-      stored: this.#copyable, strays: this.#strays, isRemade: true, maySend: false,
+      stored: () => this.#copyable, strays: this.#strays, isRemade: true, maySend: false,
     };
     const remaking = new Remaking(this.#core, open(freshName("scratch")), how);
     try {

@@ -3,16 +3,18 @@
      import { fileStore } from "jcrdt/file_store";
      const provider = await Provider.open({ document: "notes", store: fileStore("my.notes") });
 
-   A tab behind the names says that a program has it open, a space that it was closed.
+   A tab behind the names says that a program has it open, a space that it was closed. A line for each
+   opening with edits says in which file these were made: a copy of the file is another one.
    The file beside it, PATH.lock, says which process has it open. A second program is refused, also
    one that comes by a link. What a kill left is taken over, at the latest after a minute. */
 
 import * as fs from "node:fs";
 import { dirname } from "node:path";
 import { codeOf, locked, realPath } from "./file_lock.mjs";
-import { freshName } from "./names.mjs";
+import { freshName, isName, nameOf } from "./names.mjs";
 
 /** @typedef {import("./stores.mjs").Store} Store */
+/** @typedef {import("./stores.mjs").Session} Session */
 
 /** A store in the file at a path, which is made where there is none.
  *  @param {string} path
@@ -26,8 +28,8 @@ class FileStore {
   #size = 0; // of what is stored, in bytes
   #hasMore = false; // behind that is what a failed write left
   #markAt = -1; // the place of the mark
-  #session = ""; // a line with the word of this opening
-  #isSaid = false; // whether the file has it
+  #word = ""; // of this opening
+  #isSaid = false; // whether the file has a line with it
   #document = "";
   /** @type {import("./file_lock.mjs").Lock | undefined} */
   #lock;
@@ -55,20 +57,28 @@ class FileStore {
    *  @param {() => string} fresh */
   #read(document, fresh) {
     const bytes = fs.existsSync(this.#path) ? fs.readFileSync(this.#path) : Buffer.alloc(0);
-    const { head, lines, unread, size, mark, sessions } = parts(bytes);
+    const found = parts(bytes);
+    const { head, lines, unread, size, mark } = found;
+    [this.#word, this.#isSaid] = [freshName("at"), false];
     if (head && head[2] !== document) {
       throw new TypeError(`${this.#path} has the document ${head[2]}, not ${document}`);
     }
     if (size > 0 && !head && lines.length === 0) {
       throw new TypeError(`${this.#path} is no file of a replica`);
     }
-    const name = head?.[1] ?? fresh();
-    if (mark) this.#goOn(size, mark.at);
-    else this.#replace(name, lines, size > 0 && !head);
-    const word = freshName("at");
-    this.#session = JSON.stringify(["session", word]);
-    sessions.push({ before: lines.length, word });
-    return { name, lines, unread, wasOpen: mark?.isOpen ?? false, isNew: !head, sessions };
+    const isElsewhere = head !== undefined && isOfAnotherFile(found, this.#path);
+    const wasOpen = head !== undefined && mark?.isOpen !== false;
+    const isUsed = head !== undefined && hasOwn(lines, head[1]);
+    const former = isElsewhere && isUsed ? head[1] : undefined;
+    const isNew = !head || isElsewhere || (wasOpen && !isUsed);
+    const name = isNew ? fresh() : head[1];
+    if (mark && !isNew) this.#goOn(size, mark.at);
+    else {
+      const keepsOld = size > 0 && (!head || unread.length > 0 || bytes.length > size);
+      this.#replace(name, found.kept, [], keepsOld, former);
+    }
+    const sessions = [...found.sessions, { before: lines.length, word: this.#word, former }];
+    return { name, lines, unread, wasOpen: wasOpen && !isNew, isNew, sessions };
   }
 
   /** Opens the file to write behind so many bytes. What was cut off in writing goes.
@@ -90,7 +100,7 @@ class FileStore {
   append(lines) {
     this.#lock?.check();
     this.#cut();
-    const session = this.#isSaid ? [] : [this.#session];
+    const session = this.#isSaid ? [] : [sessionLine(this.#word, this.#file)];
     const bytes = Buffer.from([...session, ...lines].map((line) => `${line}\n`).join(""));
     this.#hasMore = true;
     try {
@@ -112,18 +122,21 @@ class FileStore {
    *  @param {string[]} lines */
   rename(name, lines) {
     this.#lock?.check();
-    this.#replace(name, [this.#session, ...lines], true);
-    this.#isSaid = true;
+    this.#replace(name, [], lines, true);
   }
 
   /** Puts a new file in the old one's place. The old one stays as PATH.old where it is wanted.
    *  @param {string} name
-   *  @param {string[]} lines
-   *  @param {boolean} keepsOld */
-  #replace(name, lines, keepsOld) {
+   *  @param {string[]} before this opening
+   *  @param {string[]} lines of this opening
+   *  @param {boolean} keepsOld
+   *  @param {string} [former] the name before, which goes on in another file */
+  #replace(name, before, lines, keepsOld, former) {
     const head = JSON.stringify(["replica", name, this.#document]);
-    const bytes = Buffer.from([`${head}${OPEN}`, ...lines].map((line) => `${line}\n`).join(""));
     const file = fs.openSync(`${this.#path}.new`, "w");
+    const session = sessionLine(this.#word, file, former);
+    const all = [`${head}${OPEN}`, ...before, session, ...lines];
+    const bytes = Buffer.from(all.map((line) => `${line}\n`).join(""));
     try {
       writeAll(file, bytes, 0);
       fs.fsyncSync(file);
@@ -136,7 +149,7 @@ class FileStore {
     }
     if (this.#file >= 0) fs.closeSync(this.#file);
     [this.#file, this.#size, this.#hasMore] = [file, bytes.length, false];
-    this.#markAt = Buffer.byteLength(head);
+    [this.#markAt, this.#isSaid] = [Buffer.byteLength(head), true];
     syncFolder(this.#path);
   }
 
@@ -155,6 +168,7 @@ class FileStore {
 }
 
 const [OPEN, CLOSED] = ["\t", " "]; // the marks
+const MACHINE = machineOf("/etc/machine-id");
 
 /** @param {number} file
  *  @param {number} markAt
@@ -168,30 +182,63 @@ function closeMarked(file, markAt, mark) {
 }
 
 /** The parts of a file: its first line, the lines of operations, other lines, and the size of all of
- *  them. A last line without an end was cut off in writing, and was never stored.
+ *  them. A last line without an end was cut off in writing, and was never stored; one of an export may
+ *  be whole.
  *  @param {Buffer} bytes */
 function parts(bytes) {
-  const size = bytes.lastIndexOf("\n") + 1;
+  const end = bytes.lastIndexOf("\n") + 1;
+  const isMarked = markOf(bytes.subarray(0, bytes.indexOf(10)).toString()) !== undefined;
+  const size = !isMarked && isOperation(bytes.subarray(end).toString()) ? bytes.length : end;
   const pieces = bytes.subarray(0, size).toString().split("\n");
   const head = headOf(pieces[0]);
   const rest = (head ? pieces.slice(1) : pieces).filter((line) => line !== "");
-  const [lines, unread, sessions] = [[], [], []].map((it) => /** @type {any[]} */ (it));
+  /** @type {(Session & { place: unknown })[]} */
+  const sessions = [];
+  const [lines, unread, kept] = [[], [], []].map((it) => /** @type {string[]} */ (it));
   for (const line of rest) {
-    const word = sessionOf(line);
+    const session = sessionOf(line);
     if (isOperation(line)) lines.push(line);
-    else if (word !== undefined) sessions.push({ before: lines.length, word });
+    else if (session) sessions.push({ before: lines.length, ...session });
     else unread.push(line);
+    if (unread[unread.length - 1] !== line) kept.push(line);
   }
-  return { head, lines, unread, size, mark: head && markOf(pieces[0]), sessions };
+  return { head, lines, unread, kept, size, mark: head && markOf(pieces[0]), sessions };
 }
 
-/** The word of a line that says that it was opened, and edited.
- *  @param {string} line
- *  @returns {string | undefined} */
+/** Whether a file was edited last as another file: then it is a copy of that.
+ *  @param {ReturnType<typeof parts>} found
+ *  @param {string} path */
+function isOfAnotherFile({ sessions }, path) {
+  const place = sessions[sessions.length - 1]?.place;
+  return typeof place === "string" && place !== placeOf(fs.statSync(path, { bigint: true }));
+}
+
+/** What a line says of an opening with edits: its word, which file it was, and which name went on
+ *  elsewhere. One of an older package, or of Python's, has the word alone.
+ *  @param {string} line */
 function sessionOf(line) {
   const value = line.startsWith('["session",') ? readJson(line) : undefined;
-  return Array.isArray(value) && typeof value[1] === "string" ? value[1] : undefined;
+  if (!Array.isArray(value) || typeof value[1] !== "string") return undefined;
+  return { word: value[1], place: value[2], former: isName(value[3]) ? value[3] : undefined };
 }
+
+/** @param {string} word
+ *  @param {number} file that is open
+ *  @param {string} [former] */
+function sessionLine(word, file, former) {
+  const place = placeOf(fs.fstatSync(file, { bigint: true }));
+  return JSON.stringify(["session", word, place, ...(former === undefined ? [] : [former])]);
+}
+
+/** Which file it is: the same text for it, also where it was moved, and another one for its copy. The
+ *  number of its device isn't in it: a disk may have another one whenever the machine starts.
+ *  @param {{ ino: bigint }} stat */
+const placeOf = ({ ino }) => nameOf("file", `${MACHINE} ${ino}`);
+
+/** Whether a replica of this name has made an operation.
+ *  @param {string[]} lines
+ *  @param {string} name */
+const hasOwn = (lines, name) => lines.some((line) => line.split('"', 4)[3] === name);
 
 /** The mark behind the names: whether the file is open, and its place. One of an older package has none.
  *  @param {string} line */
@@ -228,6 +275,16 @@ function readJson(text) {
 function writeAll(file, bytes, at) {
   for (let done = 0; done < bytes.length; ) {
     done += fs.writeSync(file, bytes, done, bytes.length - done, at + done);
+  }
+}
+
+/** What tells machines apart that have files of one number; "" elsewhere than on Linux.
+ *  @param {string} path */
+function machineOf(path) {
+  try {
+    return fs.readFileSync(path, "utf8").trim();
+  } catch {
+    return "";
   }
 }
 

@@ -49,6 +49,23 @@ const MAKER = /^gen(\d+-[a-z2-7]{10})-1$/;
 const BEGINNER = /^gen\d+-[a-z2-7]{10}-\d+$/;
 const MOST_ROUNDS = 8; // in which a document may be renewed while it is read
 
+/** What a replica has read of generations that take no changes any more, on its way from one of them:
+ *  each step by the names of both, and which of them have all that others stored. A document that is
+ *  renewed meanwhile, or a connection that ends, doesn't have it begin anew.
+ *  @typedef {{ from: string, steps: Map<string, Step>, withOthers: Set<Step> }} Way */
+
+/** @type {WeakMap<Behind, Way>} */
+const ways = new WeakMap();
+
+/** @param {Behind} replica @param {string} from @returns {Way} */
+function wayOf(replica, from) {
+  const there = ways.get(replica);
+  if (there?.from === from) return there;
+  const way = { from, steps: new Map(), withOthers: new Set() };
+  ways.set(replica, way);
+  return way;
+}
+
 /** The hub has no such generation of the document, as behind an older backup. */
 export class UnknownGeneration extends Error {
   name = "UnknownGeneration";
@@ -104,19 +121,21 @@ function parsedLine(line) {
 export async function laterGenerations(answer, replica) {
   const { doc } = replica;
   const generation = generationOf(replica.front());
+  const way = wayOf(replica, generation);
   for (let round = 0; round < MOST_ROUNDS; round++) {
     const [, history] = await asked(answer, ["history", doc]);
     const names = history.map((/** @type {[string]} */ [name]) => name);
     const at = names.indexOf(generation);
     if (at < 0) throw new UnknownGeneration(`the hub has no generation ${generation} of ${doc}`);
-    const steps = [];
-    for (const name of names.slice(at, -1)) steps.push(await stepOf(answer, doc, name));
+    const steps = await stepsOf(answer, doc, names.slice(at), way);
     const own = steps.length > 0
       ? await replica.ownBefore(answer, `${doc}/${generation}`, steps[0].end) : NOBODY;
-    await addOthers(answer, replica, own, names.slice(at), steps);
+    await addOthers(answer, replica, own, names.slice(at), steps, way);
     const log = await logOf(answer, doc, []);
     const now = generationOf(log.map(([, [counter, name]]) => [name, counter]));
-    if (now === names[names.length - 1]) return { steps, log, own };
+    if (now !== names[names.length - 1]) continue;
+    ways.delete(replica);
+    return { steps, log, own };
   }
   throw new Error(`${doc} is renewed again and again`);
 }
@@ -127,6 +146,20 @@ async function asked(answer, request) {
   if (isArray(reply) && reply[0] !== "no") return reply;
   if (isArray(reply)) throw new Refused(reply[1], reply[2], reply[3]);
   throw new TypeError(`the hub's reply to ${request[0]} is malformed`);
+}
+
+/** The steps between generations, of which those that were read before are known.
+ *  @param {Answer} answer @param {string} doc @param {string[]} names of the generations
+ *  @param {Way} way @returns {Promise<Step[]>} */
+async function stepsOf(answer, doc, names, way) {
+  const steps = [];
+  for (const [at, name] of names.slice(0, -1).entries()) {
+    const key = `${name} ${names[at + 1]}`;
+    const step = way.steps.get(key) ?? await stepOf(answer, doc, name);
+    way.steps.set(key, step);
+    steps.push(step);
+  }
+  return steps;
 }
 
 /** @param {Answer} answer @param {string} doc @param {string} generation
@@ -146,17 +179,19 @@ async function stepOf(answer, doc, generation) {
 
 /** Adds what others stored in the generations of the steps, where something is carried that clears.
  *  @param {Answer} answer @param {Behind} replica @param {Own} own
- *  @param {string[]} names of the generations @param {Step[]} steps */
-async function addOthers(answer, replica, own, names, steps) {
+ *  @param {string[]} names of the generations @param {Step[]} steps @param {Way} way */
+async function addOthers(answer, replica, own, names, steps, way) {
   const [first] = steps;
   const unsent = first ? [...replica.operations(ownPart(first.end, own))] : [];
   if (!unsent.some(({ 4: [word] }) => word === "assign" || word === "delete")) return;
   for (const [at, step] of steps.entries()) {
+    if (way.withOthers.has(step)) continue;
     const known = at === 0 ? ownPart(replica.front(), own) : steps[at - 1].start;
     const past = `${replica.doc}/${names[at]}`;
     try {
       await asked(answer, ["open", past]);
       step.others = await logOf(answer, past, known);
+      if (at > 0) way.withOthers.add(step); // what of the first is another's changes with the replica
     } catch (error) {
       if (!(error instanceof Refused)) throw error; // it isn't kept
     }
@@ -322,7 +357,7 @@ class Again {
   /** The name under which an operation is made again: copies of a store that have it use the same.
    *  @param {Id} id */
   #nameFor([counter, replica]) {
-    const session = replica === this.#own.name ? this.#own.sessionOf(counter) : "";
+    const session = this.#own.sessionOf(counter, replica);
     const what = [this.#start[0]?.[0], replica];
     return nameOf("again", print(session === "" ? what : [...what, session]));
   }

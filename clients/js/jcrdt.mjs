@@ -187,6 +187,13 @@ class Room {
     [this.at, this.#length, this.#bytes] = [at, least, new Uint8Array()];
   }
 
+  /** Gives it back where it is larger than most calls need. */
+  shrink() {
+    if (this.#length <= ROOM) return;
+    this.exports.free(this.at);
+    [this.at, this.#length, this.#bytes] = [0n, 0, new Uint8Array()];
+  }
+
   get bytes() {
     if (this.#bytes.length === 0) this.#bytes = bytesAt(this.exports, this.at, this.#length);
     return this.#bytes;
@@ -262,8 +269,13 @@ class Heap {
       this.#out.grow(length);
       again(this.#out.at, BigInt(length));
     }
-    return decoder.decode(this.#out.bytes.subarray(0, length));
+    const text = decoder.decode(this.#out.bytes.subarray(0, length));
+    this.#out.shrink();
+    return text;
   }
+
+  /** Gives back the room of a text that was put, where it was a large one. */
+  shrink() { this.#in.shrink(); }
 }
 
 /** Whether a value has more arrays and objects within each other.
@@ -359,6 +371,7 @@ class Proved {
       if (number !== 0n) throw this.#refusal(fault);
     } finally {
       exports.free(fault);
+      this.#heap.shrink();
     }
   }
 

@@ -39,6 +39,14 @@ class Lines {
     this.#last = [];
   }
 
+  /** The last ones: so many at most, and fewer where they weren't kept apart.
+   *  @param {number} count
+   *  @returns {string[]} */
+  last(count) {
+    const before = this.#last.length < count ? this.#parts[this.#parts.length - 1]?.split("\n") ?? [] : [];
+    return [...before, ...this.#last].slice(-count);
+  }
+
   /** @returns {string[]} */
   all() {
     return [...this.#parts.flatMap((part) => part.split("\n")), ...this.#last];
@@ -75,6 +83,11 @@ export class LastingEngine {
   /** Is to be called with each operation that was logged.
    *  @param {string} line */
   logged(line) { this.#lines.add(line); }
+
+  /** The last lines of the log, so many at most.
+   *  @param {number} count
+   *  @returns {string[]} */
+  last(count) { return this.#lines.last(count); }
 
   free() { this.#engine.free(); }
 }

@@ -37,7 +37,8 @@ export { Busy, Unstored, memoryStore } from "./stores.mjs";
  * @typedef {object} State
  * @property {"online" | "connecting" | "offline" | "refused"} word "online": all that is stored
  *   here was given or is on its way, and all that the server has is here or on its way. "refused":
- *   the same, but for one's own changes that the server refuses: these stay here
+ *   the same, but for one's own changes that the server refuses: these stay here. Where `refused`
+ *   has `differs` nothing is exchanged
  * @property {Date} since when it began
  * @property {string} why why it is offline, or what is refused, in words; else ""
  * @property {RefusedChanges} [refused] of "refused"
@@ -47,6 +48,8 @@ export { Busy, Unstored, memoryStore } from "./stores.mjs";
  * @typedef {object} RefusedChanges
  * @property {number} count how many operations of this replica the server lacks
  * @property {Refused} cause why it refused the first of them
+ * @property {import("./chains.mjs").Difference} [differs] where the server has other operations than
+ *   are here: of which replica, and the counter of the first one. Nothing is sent or taken then
  */
 
 /**
@@ -265,6 +268,18 @@ export class Provider {
     return this.#exchange.refused ? this.#exchange.discard(seconds * 1000) : [];
   }
 
+  /** Where the server has other operations of somebody than are here (`state.refused.differs`), as one
+   *  that was started over an older file: goes on with what the server has, and makes one's own changes
+   *  that it lacks again under a new name. Resolves the lines of those that couldn't be made, and of
+   *  others' that are here alone; none where nothing differs. Watches go on. Throws Away where there is
+   *  no exchange in time: then nothing is made.
+   *  @param {{ seconds?: number }} [wait] 10, unless it is said
+   *  @returns {Promise<string[]>} */
+  async remakeRefused(wait) {
+    const { seconds = 10 } = wait ?? {};
+    return this.#exchange.refused?.differs ? this.#exchange.remake(seconds * 1000) : [];
+  }
+
   /** How many operations the exchange that goes on has got of the server, which show once they are
    *  taken; `undefined` where it gets none. An event "progress" says twice a second that it is
    *  another. */
@@ -451,8 +466,11 @@ async function restored({ document, engine, word = "replica" }, store, stored) {
     replica.isFiled = stored.wasOpen !== undefined;
     replica.wasOpen = stored.wasOpen ?? false;
     replica.isNew = own !== name || (stored.isNew ?? false);
-    replica.sessions = (stored.sessions ?? []).map(({ before, word: of }) =>
-      ({ after: lastOwn(stored.lines.slice(0, before), own), word: of }));
+    const sessions = stored.sessions ?? [];
+    replica.sessions = sessionsOf(own, sessions, stored.lines);
+    for (const [at, { former }] of sessions.entries()) {
+      if (former) replica.formers.set(former, sessionsOf(former, sessions.slice(0, at), stored.lines));
+    }
     return replica;
   };
   const first = replicaOf(name, lines);
@@ -466,6 +484,13 @@ async function restored({ document, engine, word = "replica" }, store, stored) {
   await store.rename(fresh, good, []);
   return { replica, lost };
 }
+
+/** From behind which of its operations on each opening was there.
+ *  @param {string} name
+ *  @param {import("./stores.mjs").Session[]} sessions
+ *  @param {string[]} lines */
+const sessionsOf = (name, sessions, lines) =>
+  sessions.map(({ before, word }) => ({ after: lastOwn(lines.slice(0, before), name), word }));
 
 /** The counter of the last operation of a replica.
  *  @param {string[]} lines

@@ -8,7 +8,7 @@
    store was opened is nobody else's, unless it is a file, which may be copied meanwhile: it goes under
    the new name of this replica. */
 
-import { Comparison } from "./copies.mjs";
+import { Comparison, isSaying } from "./copies.mjs";
 import { Refused, refusalOf } from "./errors.mjs";
 import { operationsOf, reading } from "./followers.mjs";
 import { isArray, print } from "./json.mjs";
@@ -36,7 +36,7 @@ import { NAME_USED_TWICE } from "./protocol.mjs";
  *  @property {number} sure Own insertions up to this counter are this replica's own.
  *  @property {(same: number) => boolean} isOurs Whether what the server has up to this counter, and is
  *    the same here, is this replica's own.
- *  @property {number} stored Copies of the store may have own operations up to this counter.
+ *  @property {() => number} stored Up to this counter copies of the store may have own operations.
  *  @property {Set<number>} strays Own operations that the server has logged behind another's.
  *  @property {boolean} isRemade Whether own operations that the server lacks are made again.
  *  @property {boolean} maySend Whether the server may take what is made again. */
@@ -56,6 +56,9 @@ export class Remaking {
   #good = new Map();
   /** @type {Map<string, number>} Of the names under which something was made again: the last one. */
   #made = new Map();
+  /** @type {Map<string, number>} Of another replica: from which of its operations on the server has
+   *  others. */
+  #barred = new Map();
   /** @type {Map<string, {counter: number, need: number}[]>} Of a replica: from which of its
    *  operations on they depend on more of the old name than is the same here and there. */
   #needs = new Map();
@@ -66,6 +69,8 @@ export class Remaking {
   #shared = ""; // the name under which copies make the same
   #comparison;
   #isForked = false;
+  /** @type {Set<string>} Names before of which the server has others' operations. */
+  #forked = new Set();
   #core;
   #scratch;
   #how;
@@ -93,12 +98,20 @@ export class Remaking {
     this.#comparison.take(op);
   }
 
-  /** Makes again what copies of the store may have, too, and has the server log it. Returns whether
-   *  it has; else the server has something that isn't known here.
+  /** Whether copies of the store may have own operations that weren't made again yet. */
+  get isBehind() {
+    const front = this.#core.front();
+    const isUnseen = (/** @type {string} */ name, most = Infinity) =>
+      Math.min(front.get(name) ?? 0, most) > (this.#seen.get(name) ?? 0);
+    return isUnseen(this.#core.name(), this.#how.stored())
+      || [...this.#core.formers().keys()].some((name) => isUnseen(name));
+  }
+
+  /** Makes these again, and has the server log it. Returns whether it has; else the server has
+   *  something that isn't known here.
    *  @param {Ask} ask
    *  @returns {Promise<boolean>} */
   async send(ask) {
-    if (this.#how.stored === 0) return true;
     for (const op of this.#rest()) {
       this.#take(op);
       const last = this.#due[this.#due.length - 1];
@@ -127,8 +140,24 @@ export class Remaking {
 
   /** @param {Operation} op */
   #take(op) {
-    if (op[1][1] === this.#core.name()) this.#takeOwn(op);
+    const [, [, replica]] = op;
+    if (replica === this.#core.name()) this.#takeOwn(op);
+    else if (this.#core.formers().has(replica)) this.#takeFormer(op);
     else this.#takeOther(op);
+  }
+
+  /** One of a name before, which goes on elsewhere: it is another's, as long as the server has no other
+   *  one of its id, or of one that it depends on.
+   *  @param {Operation} op */
+  #takeFormer(op) {
+    const [, id] = op;
+    const isThere = this.#isThere(op);
+    const isTaken = !isThere && covers(new Map(this.#scratch.ask(["front"]).reply[1]), id);
+    const isGiven = this.#how.isRemade && !this.#isBarred(op);
+    const isOthers = !this.#forked.has(id[1]) && !isTaken && (isThere || isGiven);
+    if (isOthers) return this.#takeOther(op);
+    this.#forked.add(id[1]);
+    this.#makeAgain(op);
   }
 
   /** Whether the server has logged what is due. One at a time: where another copy has gone on in
@@ -161,28 +190,47 @@ export class Remaking {
   /** @param {Operation} op */
   #takeOther(op) {
     const [counter, replica] = op[1];
-    const word = this.#deliver(op);
+    const word = this.#isBarred(op) && !this.#isThere(op) ? "barred" : this.#deliver(op);
     if (word === "applied") this.#due.push(op);
-    if (word !== "applied" && word !== "known") return void this.#lost.push(print(op));
-    this.#good.set(replica, counter);
-    this.#noteNeed(op);
+    if (word !== "applied" && word !== "known") {
+      this.#lost.push(print(op));
+      if (!this.#barred.has(replica)) this.#barred.set(replica, counter);
+    } else if (!this.#barred.has(replica)) {
+      this.#good.set(replica, counter);
+      this.#noteNeed(op);
+    }
+  }
+
+  /** Whether it depends on an operation of another replica in whose place the server has another one.
+   *  Who made it makes it again.
+   *  @param {Operation} op */
+  #isBarred([, [counter, replica], front]) {
+    const known = [...front, /** @type {[string, number]} */ ([replica, counter])];
+    return known.some(([name, last]) => last >= (this.#barred.get(name) ?? Infinity));
   }
 
   /** @param {Operation} op */
   #takeOwn(op) {
     const [, [counter, replica], , , [word]] = op;
-    const { forked, sure, isRemade } = this.#how;
+    const { forked, sure } = this.#how;
     if (!this.#isForked && counter < forked && this.#isThere(op) && !this.#isOfAnother(op)) {
       this.#good.set(replica, counter);
       if (word === "insert" && counter > sure) this.#melted.push(print(op));
       return;
     }
+    // What was said of a name before is of no use: what that made is made again, too.
+    if (this.#core.formers().size > 0 && isSaying(op)) return;
     this.#isForked = true;
     if (this.#how.strays.has(counter) && this.#isThere(op)) {
       this.#ids.set(String(op[1]), op[1]);
       return void this.#made.set(replica, counter);
     }
-    const id = isRemade && (this.#madeShared(op) ?? this.#madeOwn(op));
+    this.#makeAgain(op);
+  }
+
+  /** @param {Operation} op */
+  #makeAgain(op) {
+    const id = this.#how.isRemade && (this.#madeShared(op) ?? this.#madeOwn(op));
     if (id) this.#ids.set(String(op[1]), id);
     else this.#lost.push(print(op));
   }
@@ -214,21 +262,19 @@ export class Remaking {
    *  @param {Operation} op
    *  @returns {Id | undefined} */
   #madeShared(op) {
-    if (op[1][0] > this.#how.stored || this.#made.has(this.#how.name)) return undefined;
-    if (!this.#isMakeable(op)) return undefined;
-    const session = this.#core.sessionOf(op[1][0]);
+    const [, [counter, replica]] = op;
+    const isLater = replica === this.#core.name() && counter > this.#how.stored();
+    if (isLater || this.#made.has(this.#how.name) || !this.#isMakeable(op)) return undefined;
+    const session = this.#core.sessionOf(counter, replica);
     const what = [op[1], this.#renamed(op, "")];
     const fresh = nameOf("again", print(session === "" ? what : [...what, session]));
-    for (const name of [this.#shared, fresh]) {
-      if (name === "") continue;
-      const again = this.#renamed(op, name);
-      const isThere = this.#isThere(again);
-      if (!isThere && !(this.maySend && this.#deliver(again) === "applied")) continue;
-      if (!isThere) this.#due.push(again);
-      this.#shared = name;
-      return this.#noted(again);
-    }
-    return undefined;
+    const ways = [this.#shared, fresh].filter((name) => name !== "").map((name) => this.#renamed(op, name));
+    const there = ways.find((it) => this.#isThere(it)); // another copy was first
+    const again = there ?? (this.maySend ? ways.find((it) => this.#deliver(it) === "applied") : undefined);
+    if (!again) return undefined;
+    if (!there) this.#due.push(again);
+    [, [, this.#shared]] = again;
+    return this.#noted(again);
   }
 
   /** Makes it again under the new name.

@@ -16,6 +16,7 @@
    Log and tree are the engine's: the proved replica, jcrdt.wasm. */
 
 import { CLOCK } from "./clock.mjs";
+import { copyPlace, sayings } from "./copies.mjs";
 import { Refused, refusalOf } from "./errors.mjs";
 import { Events } from "./events.mjs";
 import { Exchange } from "./exchange.mjs";
@@ -81,8 +82,11 @@ export class Replica {
    *  @type {import("./clock.mjs").Clock} */
   clock = CLOCK;
   /** Words of the times in which own operations were made, each from behind a counter on.
-   *  @type {{ after: number, word: string }[]} */
+   *  @type {import("./copies.mjs").Sessions} */
   sessions = [];
+  /** The same of names before this one, which go on in stores of which this one is a copy.
+   *  @type {Map<string, import("./copies.mjs").Sessions>} */
+  formers = new Map();
   /** Called with what a listener has thrown. The others go on.
    *  @type {(error: any) => any} */
   failed = (error) => console.error(error);
@@ -132,15 +136,18 @@ export class Replica {
       take: (operations) => this.deliverAll(operations), isShared: () => this.isShared,
       begin: (lines) => this.#mayBegin(lines.length) && this.#events.batch(() => this.#begin(lines)),
       now: () => this.clock.now(), isFiled: () => this.isFiled, wasOpen: () => this.wasOpen,
-      isNew: () => this.isNew, sessionOf: (counter) => this.#sessionOf(counter),
-      say: (place) => this.#say(place), fetched: (count) => this.fetched(count),
+      isNew: () => this.isNew, sessionOf: this.#sessionOf, formers: () => this.formers,
+      last: (count) => this.#engine.last(count).map((line) => /** @type {Operation} */ (parse(line))),
+      say: (place) => this.#say(place), sayFormers: () => this.#sayFormers(),
+      fetched: (count) => this.fetched(count),
     }, stored);
   }
 
-  /** @param {number} counter */
-  #sessionOf(counter) {
-    return this.sessions.filter(({ after }) => after < counter).pop()?.word ?? "";
-  }
+  /** @type {import("./copies.mjs").SessionOf} */
+  #sessionOf = (counter, name = this.#name) => {
+    const sessions = name === this.#name ? this.sessions : this.formers.get(name) ?? [];
+    return sessions.filter(({ after }) => after < counter).pop()?.word ?? "";
+  };
 
   get name() { return this.#name; }
   /** Whether what was restored may be that of a program that goes on, and nobody was told. */
@@ -251,6 +258,7 @@ export class Replica {
   #change(work) {
     for (const check of this.#guards) check();
     return this.#events.batch(() => {
+      this.#sayFormers();
       this.#exchange.say();
       return work();
     });
@@ -261,6 +269,28 @@ export class Replica {
   #say(place) {
     const { reply, line = "" } = this.#engine.ask(["delete", this.#request(place)]);
     if (reply[0] !== "no") this.#events.batch(() => this.#log(parse(line), line, reply[1], "own"));
+  }
+
+  /** Says of each name before this one, once, up to where this may be a copy. These operations are the
+   *  first ones of this name, and know of nothing: so they are at a server before what they are about.
+   */
+  #sayFormers() {
+    if (this.formers.size === 0 || this.#front.has(this.#name)) return;
+    const places = [...this.formers.keys()].map((name) => this.#placeOfCopy(name));
+    const operations = sayings(this.#name, places);
+    const lines = operations.map(print);
+    const all = [...lines, ...this.lines().slice(1)];
+    this.#use(new LastingEngine(this.#open, this.#name, all), all.length);
+    this.#events.batch(() => {
+      this.#events.note(operations);
+      for (const [at, op] of operations.entries()) this.#events.log(lines[at], op, "own");
+    });
+  }
+
+  /** @param {string} name */
+  #placeOfCopy(name) {
+    const last = this.#front.get(name) ?? 0;
+    return copyPlace(name, last, this.#sessionOf(Infinity), this.#sessionOf(last, name));
   }
 
   /** Assigns a scalar, {} or [].
@@ -522,6 +552,11 @@ export class Replica {
   sum(cursor) { return integer(this.#read("sum", this.#request(cursor))); }
   /** @returns {[string, number][]} */
   front() { return frontPairs(this.#front); }
+  /** By which two logs are compared, as `chains` of a session.
+   *  @param {ReadonlyMap<string, number>} after
+   *  @param {ReadonlyMap<string, number>} front
+   *  @returns {[string, number, string][]} */
+  chains(after, front) { return this.#read("chains", frontPairs(after), frontPairs(front)); }
   /** The held operations, each with what is missing.
    *  @returns {[Id, Id[]][]} */
   held() { return this.#read("held"); }
@@ -629,6 +664,11 @@ export class Replica {
    *  has { line, number, name, own } for each operation that was refused, here or there. If one
    *  of the own name was, by 14, 15 or 16, another replica has that name: see `remake`.
    *
+   *  Before that it compares what both have: all of it with a new `answer`, later what has come to
+   *  both. Where the server has another operation of one id, as one that was started over an older
+   *  file, nothing is exchanged, and `differs` has its { name, counter }: see `remake`. An `answer`
+   *  is of one connection, and behind a hub of one session of its server (`reopened`).
+   *
    *  One goes on at a time; a call with the same `answer` as one that waits is one with it. Throws
    *  what `answer` throws, and TypeError for a reply that no server gives.
    *  @param {Answer} answer
@@ -649,11 +689,16 @@ export class Replica {
    *  @returns {boolean} */
   logged(answer, operations) { return this.#exchange.logged(answer, operations); }
 
+  /** Whether a name is this replica's, or was that of one of which its store is a copy.
+   *  @param {string} name
+   *  @returns {boolean} */
+  isOwnName(name) { return this.#exchange.isOwnName(name); }
+
   /** Goes on under a new name, after the server refused an operation of one's own since another
-   *  has its id. Takes the server's log, the operations of others that it lacks, and those of
-   *  one's own that it lacks: under the new name, with what they knew. Own ones that were never
-   *  stored or sent from here aren't taken for the server's, however alike. Watches go on. Then
-   *  store all lines, and sync.
+   *  has its id, or where the server has others of somebody. Takes the server's log, the operations
+   *  of others that it lacks, and those of one's own that it lacks: under the new name, with what
+   *  they knew. Own ones that were never stored or sent from here aren't taken for the server's,
+   *  however alike. Watches go on. Then store all lines, and sync.
    *  @param {string} name
    *  @param {Answer} answer
    *  @returns {Promise<Remade>} */
@@ -703,7 +748,7 @@ export class Replica {
    *  @returns {Promise<import("./generations.mjs").Own>} */
   async ownBefore(answer, past, end) {
     const found = await this.#exchange.before(past, end, answer, this.#open);
-    return { name: this.#name, sessionOf: (counter) => this.#sessionOf(counter), ...found };
+    return { name: this.#name, sessionOf: this.#sessionOf, ...found };
   }
 
   /** @param {string} name
@@ -712,18 +757,18 @@ export class Replica {
    *  @returns {Promise<Remade>} */
   async #goOnAs(name, answer, isRemade) {
     if (!isName(name)) throw new TypeError(`${name}: 1 to 32 of a-z, 0-9, -`);
-    const remaking = await this.#exchange.remade(name, answer, this.#open, isRemade);
-    const before = this.lines().slice(1);
-    const { lines, ids, ...report } = remaking.run(); // also what was edited meanwhile
-    remaking.free();
-    const engine = new LastingEngine(this.#open, name, lines);
-    this.#name = name;
-    this.#use(engine, lines.length);
-    this.#beginName();
-    const now = new Set(lines);
-    const gone = before.filter((line) => !now.has(line));
-    this.#events.remade(gone, (place) => this.#watchAgain(place, ids));
-    return report;
+    return this.#exchange.remade(name, answer, this.#open, isRemade, (remaking) => {
+      const before = this.lines().slice(1);
+      const { lines, ids, ...report } = remaking.run();
+      const engine = new LastingEngine(this.#open, name, lines);
+      this.#name = name;
+      this.#use(engine, lines.length);
+      this.#beginName();
+      const now = new Set(lines);
+      const gone = before.filter((line) => !now.has(line));
+      this.#events.remade(gone, (place) => this.#watchAgain(place, ids));
+      return report;
+    });
   }
 
   /** What is known of the operations of a name that it has from now on. */
@@ -731,6 +776,7 @@ export class Replica {
     this.#exchange = this.#newExchange(0);
     this.isNew = true;
     this.sessions = this.sessions.slice(-1).map(({ word }) => ({ after: 0, word }));
+    this.formers = new Map();
   }
 
   /** @param {Cursor} old

@@ -373,6 +373,16 @@ export class Client {
     }
   }
 
+  /** By which two logs are compared: for each pair of `front` the replica, the counter, and the SHA-256
+   *  in hex of the lines of the replica's operations with counters above that of `after`, or 0, and at
+   *  most that of `front`, in log order.
+   *  @param {string} document
+   *  @param {ReadonlyMap<string, number>} after
+   *  @param {ReadonlyMap<string, number>} front
+   *  @returns {Promise<[string, number, string][]>} */
+  chains = async (document, after, front) =>
+    (await this.ask("chains", document, frontPairs(after), frontPairs(front)))[0];
+
   /** Which of these ids of one's own operations this server doesn't have. After connecting to a
    *  server that was started again: these are lost, and have to be made again.
    *  @param {string} document

@@ -11,6 +11,7 @@ import { Unstored } from "./stores.mjs";
 
 /** @typedef {import("./clock.mjs").Clock} Clock */
 /** @typedef {import("./clock.mjs").Span} Span */
+/** @typedef {import("./chains.mjs").Difference} Difference */
 /** @typedef {import("./connection.mjs").Connection} Connection */
 /** @typedef {import("./events.mjs").Event} Logged */
 /** @typedef {import("./exchange.mjs").Refusal} Refusal */
@@ -40,8 +41,9 @@ export class Synchronizer {
   /** Whether the server lets this client edit; `undefined` before it was asked.
    *  @type {boolean | undefined} */
   mayWrite;
-  /** How many own operations the last exchange left here since the server refuses them, and why.
-   *  @type {{ count: number, cause: Refused } | undefined} */
+  /** How many own operations the last exchange left here since the server refuses them, and why. Where
+   *  that is a difference, nothing is exchanged.
+   *  @type {{ count: number, cause: Refused, differs?: Difference } | undefined} */
   refused;
   #parts;
   /** What the server had when it last said so.
@@ -67,6 +69,8 @@ export class Synchronizer {
   #progressAt = -TELL_MS;
   /** @type {Set<(lines: string[]) => void>} who waits until what is refused was taken back */
   #discards = new Set();
+  /** @type {Set<(lines: string[]) => void>} who waits until what differs was made again */
+  #remakes = new Set();
 
   /** @param {Parts} parts */
   constructor(parts) {
@@ -102,15 +106,21 @@ export class Synchronizer {
     const { doc } = this.#parts.replica;
     await link.timed(() => client.open(doc));
     this.mayWrite = await mayWrite(link, doc);
-    client.reopened = () => this.now(); // another session may be that of a server started again
+    client.reopened = () => {
+      this.#answers.delete(link); // another session may be that of a server started again
+      this.now();
+    };
     client.renewed = () => this.now();
     const changed = (/** @type {Map<string, number>} */ front) => {
       this.#learn(front);
       if (!this.#hasSame(front)) this.soon();
     };
+    let isBegun = false;
     await client.follow(doc, {
       changed,
       begins: (front) => {
+        if (isBegun) this.#answers.delete(link); // what was given to the server may be gone there
+        isBegun = true;
         this.#parts.replica.follow(this.#answerOf(link), front);
         changed(front);
       },
@@ -211,24 +221,28 @@ export class Synchronizer {
     const answer = this.#answerOf(link);
     if (this.#isDoubtful && this.#pushing === link) this.#parts.replica.follow(answer);
     this.#isDoubtful = false;
-    const { refused, isRenewed } = await this.#synced(answer);
+    const { refused, differs, isRenewed } = await this.#synced(answer);
     if (isRenewed) return this.#renew(answer);
     const own = refused.filter((it) => it.own);
-    if (own.some(({ number }) => NAME_USED_TWICE.has(number))) return this.#remake(answer);
-    if (own.length > 0 && this.#discards.size > 0) return this.#discard(answer);
-    for (const resolve of this.#discards) resolve([]);
-    this.#noteRefused(own);
+    const isOthers = differs !== undefined && !this.#parts.replica.isOwnName(differs.name);
+    const isTaken = own.some(({ number }) => NAME_USED_TWICE.has(number));
+    // Of others' operations the last copy may be here: nothing is done by itself then.
+    if (isOthers ? this.#remakes.size > 0 : isTaken) return this.#remake(answer, !isOthers);
+    if ((differs || own.length > 0) && this.#discards.size > 0) return this.#discard(answer);
+    for (const resolve of [...this.#discards, ...this.#remakes]) resolve([]);
+    if (differs) this.#noteDifference(differs);
+    else this.#noteRefused(own);
   }
 
   /** Exchanges, as far as the replica is of the generation that the document is in.
    *  @param {Answer} answer */
   async #synced(answer) {
     try {
-      const { refused } = await this.#parts.replica.sync(answer);
-      return { refused, isRenewed: refused.some(({ number }) => number === RENEWED) };
+      const { refused, differs } = await this.#parts.replica.sync(answer);
+      return { refused, differs, isRenewed: refused.some(({ number }) => number === RENEWED) };
     } catch (error) {
       if (!(error instanceof Refused) || error.number !== RENEWED) throw error;
-      return { refused: [], isRenewed: true };
+      return { refused: [], differs: undefined, isRenewed: true };
     } finally {
       this.#endTaking();
     }
@@ -340,10 +354,10 @@ export class Synchronizer {
 
   /** @param {Refusal[]} own */
   #noteRefused(own) {
-    const { notices, replica } = this.#parts;
+    const { notices } = this.#parts;
     this.refused = undefined;
     if (own.length === 0) return notices.solve("refused");
-    const lines = this.unsent.filter(([, [, name]]) => name === replica.name).map(print);
+    const lines = this.#ownUnsent;
     const [{ number, name }] = own;
     const count = Math.max(lines.length, own.length);
     const words = `the server refuses ${changes(count)} of this replica: ${number} ${name}`
@@ -353,25 +367,61 @@ export class Synchronizer {
     notices.report({ kind: "refused", words, cause: this.refused.cause, lines });
   }
 
+  /** The lines of own operations that no server is known to have. */
+  get #ownUnsent() {
+    const { replica } = this.#parts;
+    return this.unsent.filter(([, [, name]]) => name === replica.name).map(print);
+  }
+
+  /** Says that the server has other operations of somebody: nothing is sent or taken.
+   *  @param {Difference} differs */
+  #noteDifference(differs) {
+    const { name, counter } = differs;
+    const lines = this.#ownUnsent;
+    const words = `from ${counter} on the server has other operations of ${name} than are here: two`
+      + ` starts had this name. Nothing is sent or taken, and ${changes(lines.length)} of this replica`
+      + " stay here";
+    const cause = new Refused(REFUSALS["id-conflict"], "id-conflict", undefined, words);
+    this.refused = { count: lines.length, cause, differs };
+    this.#parts.notices.report({ kind: "refused", words, cause, lines });
+  }
+
   /** Takes back what the server refuses, at the next exchange. Resolves its lines. Throws Away
    *  where there is none for so long.
    *  @param {number} ms
    *  @returns {Promise<string[]>} */
-  async discard(ms) {
+  discard(ms) {
+    return this.#awaited(this.#discards, ms, "nothing was taken back");
+  }
+
+  /** Goes on with what the server has, where that differs, and makes own operations that it lacks
+   *  again under a new name, at the next exchange. Resolves the lines of those that couldn't be made,
+   *  and of others' that the server has others of. Throws Away where there is none for so long.
+   *  @param {number} ms
+   *  @returns {Promise<string[]>} */
+  remake(ms) {
+    return this.#awaited(this.#remakes, ms, "nothing was made again");
+  }
+
+  /** @param {Set<(lines: string[]) => void>} wishes
+   *  @param {number} ms
+   *  @param {string} what
+   *  @returns {Promise<string[]>} */
+  async #awaited(wishes, ms, what) {
     /** @type {(lines: string[]) => void} */
     let resume = () => {};
     let stop = () => {};
     const done = new Promise((/** @type {(lines: string[]) => void} */ resolve, reject) => {
       resume = resolve;
       const why = this.#parts.connection.why || "it takes long";
-      const late = () => reject(new Away(`nothing was taken back: ${why}`));
+      const late = () => reject(new Away(`${what}: ${why}`));
       stop = this.#parts.clock.after(ms, late, true);
     });
-    this.#discards.add(resume);
+    wishes.add(resume);
     this.now();
     return done.finally(() => {
       stop();
-      this.#discards.delete(resume);
+      wishes.delete(resume);
     });
   }
 
@@ -385,14 +435,22 @@ export class Synchronizer {
     for (const resolve of this.#discards) resolve(lost);
   }
 
-  /** Makes own operations again under a new name.
-   *  @param {Answer} answer */
-  async #remake(answer) {
+  /** Goes on under a new name with what the server has, and makes own operations again that it lacks.
+   *  @param {Answer} answer
+   *  @param {boolean} isOwn whether another had this replica's name */
+  async #remake(answer, isOwn) {
     const { remade, lost, melted } =
       await this.#goOnAs((replica, name) => replica.remake(name, answer));
-    const words = remadeWords(remade, lost, melted);
+    const why = isOwn ? "another had the name of this replica"
+      : "the server has other operations in place of some that were here";
+    const words = `${why}: ${remadeWords(remade, lost, melted)}`;
     this.#parts.notices.report({ kind: "remade", words, lines: lost });
+    if (this.refused?.differs) {
+      this.#noteRefused([]);
+      this.#parts.changed();
+    }
     await this.#parts.writer.flushed();
+    for (const resolve of this.#remakes) resolve(lost);
   }
 
   /** Goes on under a new name. The provider stores it before anything is edited behind it.
@@ -432,7 +490,7 @@ function adviceFor(number) {
  *  @param {string[]} lost
  *  @param {string[]} melted */
 function remadeWords(remade, lost, melted) {
-  const parts = [`another had the name of this replica: made ${remade} changes again`];
+  const parts = [`made ${remade} changes again`];
   if (lost.length) parts.push(`couldn't make ${lost.length}`);
   if (melted.length) parts.push(`${melted.length} elements may be those of the other as well`);
   return parts.join(", ");

@@ -1,7 +1,7 @@
 /* The notes: apart and together at a server, undo, damaged and copied files.
    run: examples/tests/notes PROGRAM */
 
-import { equal, match } from "node:assert/strict";
+import { doesNotMatch, equal, match } from "node:assert/strict";
 import { spawnSync } from "node:child_process";
 import { appendFileSync, copyFileSync, readFileSync } from "node:fs";
 import test from "node:test";
@@ -49,7 +49,7 @@ test("notes: no server, a torn line, a copied file", async () => {
   copyFileSync(file, `${file}-copy`);
   notes(file, server.address, "add by ada", "sync");
   const said = notes(`${file}-copy`, server.address, "add by the copy", "sync", "list");
-  match(said, /^another had the name of this replica: made \d changes again\n/);
+  doesNotMatch(said, /another had the name/); // it has one of its own
   match(said, /1 \[ ] one\n2 \[ ] by (ada|the copy)\n3 \[ ] by (ada|the copy)\n$/); // two notes, not one
   await end(server);
   match(notes(file, server.address, "add offline", "sync", "list"), /^not exchanged: .*\n1 /);

@@ -24,6 +24,7 @@ LIMITS = {
     "a number": (["assign", "d", [0, "k"], 2**63 - 1], ["assign", "d", [0, "k"], 2**63], [6, "bad-value"]),
     "a number below zero": (["add", "d", [0, "k"], -(2**63)], ["add", "d", [0, "k"], -(2**63) - 1], [6, "bad-value"]),
     "a place": (["assign", "d", below(30), 1], ["assign", "d", below(31), 1], [20, "too-deep"]),
+    "a counter of a front": (["chains", "d", [], [["a", 100_000]]], ["chains", "d", [], [["a", 100_001]]], [2, "bad-request"]),
     "a page of operations": (["ops", "d", [], 64], ["ops", "d", [], 65], [2, "bad-request"]),
 }
 

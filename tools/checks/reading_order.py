@@ -114,12 +114,12 @@ class Sources:
 
     def functions(self, file: str) -> Dict[str, str]:
         """Each function of a file with its contract, up to the brace of its body."""
-        return dict(re.findall(r"(?ms)^[ ]*(?:pub )?fn ([a-z_]+)(.*?)\{\}?$", self.text(file)))
+        return dict(re.findall(r"(?ms)^[ ]*(?:pub )?(?:extern \"C\" )?fn ([a-z_]+)(.*?)\{\}?$", self.text(file)))
 
     def block_of(self, name: str, file: str) -> str:
         """What is imported in the block that a function is in."""
         text = self.text(file)
-        found = re.search(rf"(?m)^[ ]*(?:pub )?fn {name}\b", text)
+        found = re.search(rf"(?m)^[ ]*(?:pub )?(?:extern \"C\" )?fn {name}\b", text)
         blocks = re.findall(r"(?m)^(?:impl|pub trait)\b[^\n]*\n((?:    ghost use [^;]*;\n|\s*\n)*)", text[: found.start()]) if found else []
         return str(blocks[-1]) if blocks else ""
 
@@ -131,7 +131,7 @@ class Sources:
     def types_of(self, name: str, file: str) -> Set[str]:
         """The types and traits that a function's signature names: its own, its parameters', its result's and its bounds'."""
         text = self.text(file)
-        found = re.search(rf"(?ms)^[ ]*(?:pub )?fn {name}\b(.*?)(?=\brequires\b|\bensures\b|\{{\n)", text)
+        found = re.search(rf"(?ms)^[ ]*(?:pub )?(?:extern \"C\" )?fn {name}\b(.*?)(?=\brequires\b|\bensures\b|\{{\n)", text)
         if not found:
             return set()
         block = re.findall(r"(?m)^impl.*$", text[: found.start()])

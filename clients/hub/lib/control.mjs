@@ -29,7 +29,7 @@ export const COMMANDS = {
     run: (desk, name = "", other = "") => desk.rename(name, other).then(() => []),
   },
   delete: {
-    words: "NAME", help: "put a document into the bin; clients that have it open are dropped",
+    words: "NAME", help: "put it into the bin, with --redis of each hub; its clients are dropped",
     run: (desk, name = "") => desk.delete(name).then((entry) => [entry]),
   },
   bin: {

@@ -33,6 +33,7 @@ export class Desk {
 
   /** @param {string} name */
   async create(name) {
+    this.#shelf.checkName(name);
     const isMade = await this.#shelf.folder.create(name);
     if (!isMade) throw new NoDocument(`there is a document ${name}`);
     this.#shelf.announce(name);
@@ -48,8 +49,9 @@ export class Desk {
 
   /** @param {string} entry @param {string} [name] */
   async restore(entry, name = nameOf(entry)) {
+    this.#shelf.checkName(name);
     await this.#shelf.folder.restore(entry, name);
-    this.#shelf.announce(name);
+    await this.#shelf.offer(name);
   }
 
   /** @param {string} name */

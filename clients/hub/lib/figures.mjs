@@ -177,11 +177,17 @@ export class Figures {
 function ofShelf({ shelf }) {
   if (!shelf) return [];
   const { all, open } = shelf.health.documents;
+  const { count, last, longest } = shelf.renewals;
   return [
     ["documents", "gauge", "Documents that there are.", [["", all]]],
     ["documents_open", "gauge", "Those whose server runs.", [["", open]]],
     ["documents_failing", "gauge", "Those that can't be opened.", [["", shelf.failing]]],
     ["servers_started_total", "counter", "Servers that were started.", [["", shelf.started]]],
+    ["renewals_total", "counter", "Renewals of documents.", [["", count]]],
+    ["renewal_held_seconds", "gauge", "How long the last one held changes back at once.",
+      [["", last / 1000]]],
+    ["renewal_held_longest_seconds", "gauge", "The same of the one that did longest.",
+      [["", longest / 1000]]],
   ];
 }
 

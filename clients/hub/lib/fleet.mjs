@@ -4,6 +4,7 @@
      jcrdt:hubs:id                       the fleet, once an operator has founded it
      jcrdt:hubs:back                     the hubs that have put back what their folders know
      jcrdt:hubs:documents                the names of documents, a stream
+     jcrdt:hubs:deleted                  the names of those that were deleted, for good
      jcrdt:hubs:home:DOC                 the hub that may renew it, until its lease ends
      jcrdt:hubs:takers:DOC               the hubs that take changes in it, and until when
      jcrdt:hubs:hold:DOC                 that it is being renewed: nobody takes changes
@@ -12,7 +13,7 @@
      jcrdt:hubs:ops:DOC:GENERATION       its operations, a stream */
 
 import { createHash, randomBytes } from "node:crypto";
-import { pauseBy } from "./client_package.mjs";
+import { isName, pauseBy, print } from "./client_package.mjs";
 import { messageOf } from "./notes.mjs";
 import { Redis, RedisAway } from "./redis.mjs";
 import { SCRIPTS } from "./fleet_scripts.mjs";
@@ -40,6 +41,8 @@ const LOOK_MS = 10; // between two looks whether others take changes
 const DISK_MS = 2000; // until an append-only file that is synced each second has what was written
 const OLD_MS = 7 * 86_400_000; // so long the operations of an older generation stay
 const NAMES = 1000; // that are read at once
+const PUBLISHED = 200; // operations of an entry
+const GONE_MS = 60_000; // so long there is what Redis has of a document that was deleted
 
 /** @param {string} document */
 const home = (document) => `${PREFIX}home:${document}`;
@@ -57,6 +60,7 @@ export const ops = (document, generation) => `${PREFIX}ops:${document}:${generat
 const ID = `${PREFIX}id`;
 const BACK = `${PREFIX}back`;
 const DOCUMENTS = `${PREFIX}documents`;
+const DELETED = `${PREFIX}deleted`;
 
 /** The number of a generation.
  *  @param {string} generation */
@@ -89,6 +93,9 @@ export class Fleet {
   /** Is called with the name of a document that another hub has.
    *  @type {(name: string) => Promise<unknown>} */
   named = () => Promise.resolve();
+  /** Is called with the name of a document that was deleted.
+   *  @type {(name: string) => Promise<unknown>} */
+  gone = () => Promise.resolve();
   /** Opens a document for a moment: its operations go where others lack them.
    *  @type {(name: string) => Promise<unknown>} */
   open = () => Promise.resolve();
@@ -111,6 +118,7 @@ export class Fleet {
   #isPutting = false;
   #namesAt = "0-0";
   #namesCount = 0;
+  #deletedCount = 0;
   /** @type {Set<string>} */
   #names = new Set();
   #isStopped = false;
@@ -190,6 +198,7 @@ export class Fleet {
     if (upMs < lease + 1000) this.#waitALease();
     if (this.#known === undefined) this.#known = await this.#options.folder.fleet();
     this.trouble = "";
+    await this.#readDeleted();
     this.learn(await this.#id());
     await this.#readNames();
     for (const it of this.#shared) it.connected();
@@ -243,6 +252,9 @@ export class Fleet {
     this.#id().then((id) => this.learn(id), () => {});
     this.ask("XLEN", DOCUMENTS).then((count) => {
       if (count < this.#namesCount) return this.#readNames();
+    }).catch(() => {});
+    this.ask("SCARD", DELETED).then((count) => {
+      if (count !== this.#deletedCount) return this.#readDeleted();
     }).catch(() => {});
   }
 
@@ -304,6 +316,7 @@ export class Fleet {
 
   async #putBack() {
     const { folder, hub } = this.#options;
+    await this.#readDeleted();
     for (const name of [...folder.names]) {
       const record = await folder.record(name).catch(() => undefined);
       if (record) await this.putBack(name, record);
@@ -369,14 +382,57 @@ export class Fleet {
       this.#namesAt = id;
       this.#namesCount++;
       this.#names.add(name);
-      if (!this.#options.folder.names.has(name)) this.named(name).catch(() => {});
+      const { names, deleted } = this.#options.folder;
+      if (!names.has(name) && !deleted.has(name)) this.named(name).catch(() => {});
     }
+  }
+
+  /** Lets others know which documents this hub knows to be deleted, and learns of the others. */
+  async #readDeleted() {
+    const known = [...this.#options.folder.deleted];
+    for (let at = 0; at < known.length; at += NAMES) {
+      await this.ask("SADD", DELETED, ...known.slice(at, at + NAMES));
+    }
+    const names = await this.ask("SMEMBERS", DELETED);
+    let isWhole = true;
+    for (const name of names) {
+      await this.#takeDeleted(name).catch((error) => {
+        isWhole = false;
+        this.#options.note(`${name} was deleted, and can't be put into the bin: ${messageOf(error)}`);
+      });
+    }
+    this.#deletedCount = isWhole ? names.length : -1;
+  }
+
+  /** @param {string} name */
+  async #takeDeleted(name) {
+    const { names, deleted } = this.#options.folder;
+    if (isName(name) && (names.has(name) || !deleted.has(name))) await this.gone(name);
+  }
+
+  /** Deletes a document for good. Nobody takes changes in it by then.
+   *  @param {string} document @param {string} token of the hold @param {string[]} generations */
+  async remove(document, token, generations) {
+    const id = await this.ask("GET", ID);
+    if (!this.#isOurs(id)) throw new Error("Redis doesn't know the fleet any more");
+    const isDone = await this.#script("remove", [ID, hold(document), DELETED], id, token, document);
+    if (isDone !== 1) throw new Error(OVER);
+    for (const it of generations) {
+      const keys = [ops(document, it), map(document, it), gen(document, numberOf(it))];
+      for (const key of keys) await this.ask("PEXPIRE", key, GONE_MS).catch(() => {});
+    }
+  }
+
+  /** A document isn't opened any more when others change it.
+   *  @param {string} document */
+  forget(document) {
+    for (const [key, it] of this.#asleep) if (it.document === document) this.#asleep.delete(key);
   }
 
   /** Lets other hubs know of a document.
    *  @param {string} name */
   async announce(name) {
-    if (this.#names.has(name) || !this.redis) return;
+    if (this.#names.has(name) || this.#options.folder.deleted.has(name) || !this.redis) return;
     this.#names.add(name);
     await this.ask("XADD", DOCUMENTS, "*", "name", name);
   }
@@ -409,8 +465,12 @@ export class Fleet {
     const number = numberOf(generation);
     const own = number === 1 ? "" : entryOf({ generation, digest });
     const keys = [ID, home(document), takers(document), hold(document), gen(document, number),
-      gen(document, number + 1)];
-    const [word, ...rest] = await this.#script("look", keys, this.me, this.lease, own);
+      gen(document, number + 1), DELETED];
+    const [word, ...rest] = await this.#script("look", keys, this.me, this.lease, own, document);
+    if (word === "deleted") {
+      this.#takeDeleted(document).catch((error) => this.#options.note(messageOf(error)));
+      throw new Error("it was deleted");
+    }
     if (word === "other") {
       const theirs = decisionOf(rest[0]).generation;
       throw new OtherGeneration(`the fleet has ${theirs} of it, and this hub ${generation}`);
@@ -424,9 +484,9 @@ export class Fleet {
   leave = (document) => this.#script("leave", [home(document), takers(document)], this.me);
 
   /** Has nobody take changes in a document. Returns the hold's token.
-   *  @param {string} document
+   *  @param {string} document @param {string} does what only its home does
    *  @returns {Promise<string>} */
-  async hold(document) {
+  async hold(document, does) {
     const token = `${this.me}:${randomBytes(6).toString("hex")}`;
     const ms = HOLD_LEASES * this.lease;
     const id = await this.ask("GET", ID);
@@ -434,7 +494,7 @@ export class Fleet {
     const keys = [ID, home(document), hold(document)];
     const [isHeld, at] = await this.#script("hold", keys, this.me, id, token, ms);
     const [name] = String(at || "no hub").split(":");
-    if (isHeld !== 1) throw new Error(`${name} is its home and renews it`);
+    if (isHeld !== 1) throw new Error(`${name} is its home and ${does} it`);
     return token;
   }
 
@@ -474,14 +534,15 @@ export class Fleet {
 
   /** Lets others have what a generation was made of, before it is decided.
    *  @param {string} document @param {string} generation
-   *  @param {string} text of the map @param {string[]} operations as they are written */
+   *  @param {string} text of the map @param {import("./renewal.mjs").Operation[]} operations */
   async publish(document, generation, text, operations) {
-    await this.ask("SET", map(document, generation), text);
+    const asked = [this.ask("SET", map(document, generation), text)];
     const key = ops(document, generation);
-    for (let at = 0; at < operations.length; at += 200) {
-      const page = operations.slice(at, at + 200).join(",");
-      await this.ask("XADD", key, "*", "hub", this.me, "ops", `[${page}]`);
+    for (let at = 0; at < operations.length; at += PUBLISHED) {
+      const page = print(operations.slice(at, at + PUBLISHED));
+      asked.push(this.ask("XADD", key, "*", "hub", this.me, "ops", page));
     }
+    await Promise.all(asked);
   }
 
   /** Takes back what was published for a generation that another one came before.

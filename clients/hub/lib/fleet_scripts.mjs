@@ -4,10 +4,11 @@ const NOW = "local t = redis.call('TIME') local now = t[1] * 1000 + math.floor(t
 
 /** By their names. */
 export const SCRIPTS = Object.freeze({
-  /* KEYS id, home, takers, hold, own generation, next one; ARGV me, lease, own entry or "".
-     An own generation that isn't there is put back. Where no next one is, and no hold, it takes
+  /* KEYS id, home, takers, hold, own generation, next one, deleted; ARGV me, lease, own entry or "",
+     document. Nobody takes changes in one that was deleted. An own generation that isn't there is put back. Where no next one is, and no hold, it takes
      changes for the time of a lease, and is home if no other is. */
   look: `${NOW}
+if redis.call('SISMEMBER', KEYS[7], ARGV[4]) == 1 then return {'deleted'} end
 local back = 0
 if ARGV[3] ~= '' then
   local there = redis.call('GET', KEYS[5])
@@ -54,4 +55,10 @@ return 1`,
 end
 redis.call('SET', KEYS[3], ARGV[3], 'NX')
 return redis.call('GET', KEYS[3])`,
+
+  /* KEYS id, hold, deleted; ARGV id, token, document. Whether it is deleted now. */
+  remove: `local id, held = redis.call('GET', KEYS[1]), redis.call('GET', KEYS[2])
+if id ~= ARGV[1] or held ~= ARGV[2] then return 0 end
+redis.call('SADD', KEYS[3], ARGV[3])
+return 1`,
 });

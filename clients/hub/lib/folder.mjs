@@ -9,7 +9,8 @@
      DIR/documents/NAME/2-XY.db, ..     that of its second one
      DIR/documents/NAME/2-XY.map        which element of the first became which one there
      DIR/documents/NAME/1.lost          changes of the first that can't be made in a later one
-     DIR/bin/NAME.TIME                  a document that was deleted, and when, in ms */
+     DIR/bin/NAME.TIME                  a document that was deleted, and when, in ms
+     DIR/deleted/NAME                   of a fleet: its hubs use this name no more */
 
 import { randomUUID } from "node:crypto";
 import { mkdir, open, readdir, readFile, rename, rm, writeFile } from "node:fs/promises";
@@ -46,6 +47,9 @@ export class Folder {
   /** The names of all documents.
    *  @type {Set<string>} */
   names = new Set();
+  /** The names of those that hubs of a fleet have deleted, for good.
+   *  @type {Set<string>} */
+  deleted = new Set();
   /** @type {Map<string, Promise<{ ends: Ends, lines: string[] }>>} the last ones, by their paths */
   #maps = new Map();
   #path;
@@ -69,7 +73,7 @@ export class Folder {
     if (!mark && (await readdir(whole)).length > 0) throw new NoDocument(`${path} has other files`);
     if (mark && mark.format !== FORMAT) throw new NoDocument(`${path} is of another version`);
     if (!mark) await written(join(whole, MARK), { format: FORMAT });
-    for (const it of ["documents", "bin"]) {
+    for (const it of ["documents", "bin", "deleted"]) {
       await mkdir(join(whole, it), { recursive: true, mode: 0o700 });
     }
     const folder = new Folder(whole, locked(join(whole, "lock")));
@@ -87,10 +91,16 @@ export class Folder {
       if (name.startsWith(DRAFT)) await rm(join(this.#documents, name), { recursive: true });
       else if (isName(name)) this.names.add(name);
     }
+    const deleted = await readdir(this.#deleted);
+    this.deleted = new Set(deleted.filter((it) => isName(it)));
   }
 
   get #documents() {
     return join(this.#path, "documents");
+  }
+
+  get #deleted() {
+    return join(this.#path, "deleted");
   }
 
   /** Where the hub takes commands. */
@@ -178,8 +188,9 @@ export class Folder {
    *  @param {string} name @param {string} generation that begins
    *  @param {Ends} ends @param {[Id, Id][][]} lists */
   async writeMap(name, generation, ends, lists) {
-    const lines = lists.flatMap((list) => list.map((pair, at) => (at === 0 ? [...pair, 0] : pair)));
-    const text = [ends, ...lines].map((it) => `${JSON.stringify(it)}\n`).join("");
+    const lines = lists.flatMap((list) => list.map(([old, now], at) =>
+      `[${idText(old)},${idText(now)}${at === 0 ? ",0" : ""}]\n`));
+    const text = [`${JSON.stringify(ends)}\n`, ...lines].join("");
     await this.writeMapText(name, generation, text);
     return text;
   }
@@ -250,11 +261,17 @@ export class Folder {
     }
   }
 
+  /** Throws where a document can't get this name.
+   *  @param {string} name */
+  checkFree(name) {
+    this.#check(name);
+    if (this.names.has(name)) throw new NoDocument(`there is a document ${name}`);
+  }
+
   /** @param {string} name @param {string} other a name that no document has */
   async rename(name, other) {
-    this.#check(other);
+    this.checkFree(other);
     this.#maps.clear();
-    if (this.names.has(other)) throw new NoDocument(`there is a document ${other}`);
     await rename(this.folderOf(name), this.folderOf(other));
     this.names.delete(name);
     this.names.add(other);
@@ -274,6 +291,17 @@ export class Folder {
     return entry;
   }
 
+  /** Puts a document into the bin, if it is here, and notes that its name isn't used again.
+   *  @param {string} name
+   *  @returns {Promise<string | undefined>} what it is called there */
+  async removeForGood(name) {
+    this.#check(name);
+    await writeFile(join(this.#deleted, name), "", { mode: 0o600 });
+    await synced(this.#deleted);
+    this.deleted.add(name);
+    return this.names.has(name) ? this.remove(name) : undefined;
+  }
+
   /** What is in the bin: NAME.TIME, oldest first. */
   async bin() {
     const entries = (await readdir(join(this.#path, "bin"))).filter((it) => isName(nameOf(it)));
@@ -283,9 +311,8 @@ export class Folder {
   /** Takes a document out of the bin.
    *  @param {string} entry as `bin` gives it @param {string} name that no document has */
   async restore(entry, name) {
-    this.#check(name);
+    this.checkFree(name);
     if (!(await this.bin()).includes(entry)) throw new NoDocument(`the bin has no ${entry}`);
-    if (this.names.has(name)) throw new NoDocument(`there is a document ${name}`);
     await rename(this.#binned(entry), this.folderOf(name));
     this.names.add(name);
     await synced(this.#documents);
@@ -305,6 +332,10 @@ export class Folder {
     this.#lock.giveBack();
   }
 }
+
+/** An id as JSON: what replicas are called needs no escapes.
+ *  @param {Id} id */
+const idText = ([counter, replica]) => `[${counter},"${replica}"]`;
 
 /** @param {string} entry of the bin */
 export const nameOf = (entry) => entry.replace(/\.\d+$/, "");

@@ -278,6 +278,7 @@ export class Guest {
     const { shelf } = this.#hub;
     if (!shelf || !isName(document)) return refusalLine("bad-request");
     if (!this.#rights.mayCreate(document)) return refusalLine("not-allowed");
+    if (shelf.isGone(document)) return refusalLine("no-such-document");
     const isMade = await shelf.create(document);
     if (isMade === undefined) return SERVER_AWAY;
     return isMade ? JSON.stringify(["created", document]) : refusalLine("there-already");

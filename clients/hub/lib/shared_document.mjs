@@ -187,12 +187,13 @@ export class SharedDocument {
     while (this.#changing > 0) await pauseBy(this.#clock, 1);
   }
 
-  // ---- Renewal, at its home
+  // ---- Renewal and removal, at its home
 
-  /** Has nobody take changes, and takes what others had taken. Throws where it isn't home of it. */
-  async gather() {
+  /** Has nobody take changes, and takes what others had taken. Throws where it isn't home of it.
+   *  @param {"renews" | "deletes"} does */
+  async gather(does) {
     const { document } = this.#parts;
-    this.#token = await this.#fleet.hold(document);
+    this.#token = await this.#fleet.hold(document, does);
     this.forgetRight();
     await this.#unchanging();
     await this.stream.notify();
@@ -202,6 +203,13 @@ export class SharedDocument {
 
   /** @param {Decision} decision */
   decide = (decision) => this.#fleet.decide(this.#parts.document, this.#token ?? "", decision);
+
+  /** Deletes it at all hubs, for good.
+   *  @param {string[]} generations */
+  async remove(generations) {
+    await this.#fleet.remove(this.#parts.document, this.#token ?? "", generations);
+    await this.stream.notify().catch(() => {}); // others learn it within a quarter of a lease
+  }
 
   /** Others may go on: in the next generation, if it was decided. */
   async release() {

@@ -7,6 +7,7 @@ import { NoDocument } from "./folder.mjs";
 import {
   contentOf, isFirstMaker, isMaker, makerOf, MOST_CONTENT, nextGeneration, TooLarge,
 } from "./generation.mjs";
+import { Holding, Renewals } from "./holding.mjs";
 import { messageOf } from "./notes.mjs";
 import { OpenDocument } from "./open_document.mjs";
 import { asks, splitName } from "./requests.mjs";
@@ -17,6 +18,7 @@ import { takeOver } from "./takeover.mjs";
 /** @typedef {import("./rights.mjs").Rights} Rights */
 /** @typedef {import("./state.mjs").Places} Places */
 /** @typedef {import("./folder.mjs").Record} Record */
+/** @typedef {import("./renewal.mjs").Operation} Operation */
 /** @typedef {{ program: string, open: number, closeAfter: number, documents: number,
  *    renewAt: number, keepGenerations: number,
  *    sessions: Omit<import("./open_document.mjs").Sessions, "note">,
@@ -26,6 +28,7 @@ import { takeOver } from "./takeover.mjs";
 
 const TICK_MS = 1000;
 const SPARE = 0.05; // of the room for servers, so that who opens a document needn't wait for it
+const PAST_MS = 5000; // so long the server of a generation of before runs that nobody uses
 const ROOM_MS = 15_000; // so long a request waits for room for a server
 const FAILED_MS = 1000; // so long a document isn't tried again that couldn't be opened
 const VERSION = '["version",2]';
@@ -41,6 +44,8 @@ const ADVICE = "Divide it, or keep its texts as lines in place of characters";
 const RIGHT_MS = 5000; // so long a change waits until it may be taken
 const FOLLOW_MS = 1000; // until another generation is tried again that couldn't be taken over
 
+// Requests with a front, by which a generation is known.
+const FRONTED = ["ops", "page", "chains"];
 const RENEWED = refusalLine("renewed");
 const UNKNOWN = refusalLine("server-lost");
 
@@ -58,6 +63,7 @@ export class Shelf {
   folder;
   /** How many servers it has started. */
   started = 0;
+  renewals = new Renewals();
   /** Is called before a document goes, or gets another name.
    *  @type {(document: string) => void} */
   leaves = () => {};
@@ -82,6 +88,10 @@ export class Shelf {
   #waiting = [];
   /** @type {Set<string>} documents that nobody may use now */
   #shut = new Set();
+  /** @type {Set<string>} names that documents are getting */
+  #reserved = new Set();
+  /** @type {Map<string, Promise<string | undefined>>} documents that go into the bin for good */
+  #burying = new Map();
   /** @type {Map<string, Promise<void>>} documents that are renewed: who uses them waits */
   #renewing = new Map();
   /** @type {Map<string, Promise<Record>>} documents whose next generation is made */
@@ -105,6 +115,7 @@ export class Shelf {
     this.#options = options;
     const { fleet } = options;
     if (fleet) fleet.named = (name) => this.create(name);
+    if (fleet) fleet.gone = (name) => this.#bury(name);
     if (fleet) fleet.open = (name) => this.use(name, async () => "");
     this.#clock = options.sessions.clock;
     this.#stopTicks = this.#clock.every(TICK_MS, () => this.#closeIdle());
@@ -170,10 +181,11 @@ export class Shelf {
   }
 
   /** Whether a request is of the generation that a document has now. One that delivers is if its
-   *  operation knows of the generation's beginning, and one that asks for operations if its front does,
-   *  or is empty: else operations of two generations would be mixed.
+   *  operation knows of the generation's beginning, and one that asks for operations or for chains if
+   *  its front does, or is empty: else operations of two generations would be mixed.
    *  @param {string} document @param {any[]} request */
-  #isOfNow(document, [word, , item]) {
+  #isOfNow(document, [word, , first, second]) {
+    const item = word === "chains" ? second : first;
     const record = this.#records.get(document);
     if (!record || !Array.isArray(item)) return true; // one of before, which is only read; or no request
     const maker = makerOf(record.generation);
@@ -182,7 +194,7 @@ export class Shelf {
       return isMaker(replica) ? replica.startsWith(`gen${record.generation}-`)
         : isBehind(item[2], maker);
     }
-    return (word !== "ops" && word !== "page") || item.length === 0 || isBehind(item, maker);
+    return !FRONTED.includes(word) || item.length === 0 || isBehind(item, maker);
   }
 
   /** @param {string} document */
@@ -210,6 +222,7 @@ export class Shelf {
     if (!REQUESTS.has(word)) return "bad-request";
     if (this.folder.names.has(document)) return undefined;
     if (document.includes("/")) return (await this.#isKept(document)) ? undefined : "no-such-document";
+    if (this.isGone(document)) return "no-such-document";
     if (word === "open" && items.length > 0) return "bad-request";
     if (word !== "open" || !isName(document) || !rights.mayCreate(document)) {
       return "no-such-document";
@@ -244,6 +257,7 @@ export class Shelf {
     const { documents, note } = this.#options;
     try {
       if (this.folder.names.has(document)) return false;
+      this.checkName(document);
       if (this.folder.names.size >= documents) throw new Error(`there are ${documents} documents`);
       const isMade = await this.folder.create(document);
       this.announce(document);
@@ -258,6 +272,14 @@ export class Shelf {
    *  @param {string} document */
   announce(document) {
     this.#options.fleet?.announce(document).catch(() => {});
+  }
+
+  /** Lets other hubs know of a document, and have what it shows: it is opened for that.
+   *  @param {string} document */
+  async offer(document) {
+    if (!this.#options.fleet) return;
+    this.announce(document);
+    await this.use(document, async () => "").catch(() => {}); // else they get it once somebody opens it
   }
 
   /** The names of documents behind another one, in the order of their bytes.
@@ -280,29 +302,94 @@ export class Shelf {
    *  @param {string} document */
   isOpen = (document) => this.#documents.has(document);
 
-  /** @param {string} document @param {string} other */
-  async rename(document, other) {
-    await this.#without(document, () => this.folder.rename(document, other));
+  /** Whether the hubs that share documents have deleted one of this name.
+   *  @param {string} name */
+  isGone = (name) => this.#options.fleet !== undefined && this.folder.deleted.has(name);
+
+  /** Throws where a document can't get this name now.
+   *  @param {string} name */
+  checkName(name) {
+    if (this.isGone(name)) {
+      throw new NoDocument(`${name} was deleted at all hubs that share it: its name isn't used again`);
+    }
+    if (this.#reserved.has(name)) throw new NoDocument(`there is a document ${name}`);
   }
 
-  /** Puts a document into the bin, and resolves what it is called there.
+  /** @param {string} document @param {string} other */
+  async rename(document, other) {
+    if (this.#options.fleet) {
+      throw new NoDocument(`${document} keeps its name: a hub that shares it may be away, and make ${other}`);
+    }
+    this.folder.checkFree(other); // before anybody is dropped
+    this.checkName(other);
+    this.#reserved.add(other);
+    try {
+      await this.#without(document, () => this.folder.rename(document, other));
+    } finally {
+      this.#reserved.delete(other);
+    }
+  }
+
+  /** Puts a document into the bin, and resolves what it is called there. Hubs that share it all do, for
+   *  good.
+   *  @param {string} document
+   *  @returns {Promise<string>} */
+  remove(document) {
+    const { fleet } = this.#options;
+    return fleet ? this.#removeAtAll(document) : this.#without(document, () => this.folder.remove(document));
+  }
+
+  /** Deletes a document at all hubs that share it, where this one is home of it.
    *  @param {string} document */
-  remove = (document) => this.#without(document, () => this.folder.remove(document));
+  async #removeAtAll(document) {
+    if (!this.folder.names.has(document)) throw new NoDocument(`there is no document ${document}`);
+    const open = await this.#opened(document);
+    const [shared, record] = [this.#shared.get(document), this.#records.get(document)];
+    try {
+      if (!open || !shared || !record) throw new Error(`${document} can't be opened`);
+      if (this.#making.has(document)) throw new Error(`${document} is being renewed`);
+      await shared.gather("deletes");
+      await shared.remove([...record.history, record].map(({ generation }) => generation));
+      this.#options.atStep?.("removed");
+      return (await this.#bury(document)) ?? document;
+    } finally {
+      if (open) open.uses--;
+      await shared?.release().catch(() => {}); // it ends by itself
+    }
+  }
+
+  /** Puts a document into the bin that was deleted at all hubs.
+   *  @param {string} document */
+  #bury(document) {
+    const burying = this.#burying.get(document)
+      ?? this.#buried(document).finally(() => this.#burying.delete(document));
+    this.#burying.set(document, burying);
+    return burying;
+  }
+
+  /** @param {string} document */
+  async #buried(document) {
+    const { folder } = this;
+    if (!folder.names.has(document)) return folder.removeForGood(document);
+    const entry = await this.#without(document, () => folder.removeForGood(document));
+    this.#options.note(`${document} was deleted: it is in the bin, as ${entry}`);
+    return entry;
+  }
 
   /** Does something while nobody uses a document, and no server has it.
    *  @template T
    *  @param {string} document @param {() => Promise<T>} work
    *  @returns {Promise<T>} */
   async #without(document, work) {
-    if (this.#options.fleet) {
-      throw new NoDocument(`${document} is of several hubs: it keeps its name, and isn't deleted`);
-    }
     if (!this.folder.names.has(document)) throw new NoDocument(`there is no document ${document}`);
     if (this.#shut.has(document)) throw new NoDocument(`${document} is being changed`);
     this.#shut.add(document);
     try {
       this.leaves(document);
-      await this.#making.get(document)?.catch(() => {});
+      for (const it of [this.#making, this.#taking, this.#renewing]) {
+        await it.get(document)?.catch(() => {});
+      }
+      await this.#forgetShared(document);
       for (const [name, open] of [...this.#documents]) {
         if (splitName(name)[0] === document) await this.#end(open);
       }
@@ -314,13 +401,21 @@ export class Shelf {
     }
   }
 
+  /** What is deleted isn't given to others any more.
+   *  @param {string} document */
+  async #forgetShared(document) {
+    await this.#unshare(document, true);
+    this.#options.fleet?.forget(document);
+  }
+
   // ---- Servers
 
   /** The document, whose use has begun; `undefined` where it can't be used.
    *  @param {string} document */
   async #opened(document) {
     for (;;) {
-      await this.#renewing.get(document);
+      // It may be held back again by the time that it goes on.
+      while (this.#renewing.has(document)) await this.#renewing.get(document);
       const [name] = splitName(document);
       const isThere = this.folder.names.has(name) && !this.#shut.has(name);
       if (!isThere || this.#isStopped) return undefined;
@@ -531,12 +626,15 @@ export class Shelf {
   }
 
   #closeIdle() {
-    const since = this.#clock.now() - this.#options.closeAfter;
+    const { closeAfter, fleet } = this.#options;
     const names = new Map([...this.#documents].map(([name, open]) => [open, name]));
     for (const it of this.#unused()) {
+      const name = names.get(it) ?? "";
+      // Who follows a document reads each generation of before once, and there may be many.
+      const ms = splitName(name)[1] === undefined ? closeAfter : Math.min(closeAfter, PAST_MS);
       // Where hubs share it, another one's changes are to be pushed.
-      const isNeeded = this.#options.fleet && this.isWatched(names.get(it) ?? "");
-      if (it.usedAt < since && !isNeeded) this.#close(it);
+      const isNeeded = fleet && this.isWatched(name);
+      if (it.usedAt < this.#clock.now() - ms && !isNeeded) this.#close(it);
     }
   }
 
@@ -607,7 +705,7 @@ export class Shelf {
   }
 
   /** Puts what a document shows into its next generation, which takes changes from then on. Who uses
-   *  the document waits meanwhile. Where it fails, the document goes on as it is.
+   *  the document waits for moments meanwhile. Where it fails, the document goes on as it is.
    *  @param {string} document
    *  @returns {Promise<string>} the generation */
   async renew(document) {
@@ -622,7 +720,6 @@ export class Shelf {
       this.#making.set(document, making);
       const { generation, began } = await making;
       this.#notBefore.delete(document);
-      this.renewed(document, generation);
       if (began > WARN_CONTENT) this.#warn(document, began);
       return generation;
     } finally {
@@ -638,36 +735,61 @@ export class Shelf {
 
   /** @param {string} document @param {OpenDocument} open @param {Record} record */
   async #renewed(document, open, record) {
-    let goOn = () => {};
     const shared = this.#shared.get(document);
-    const hold = async () => {
-      await shared?.gather();
-      this.#renewing.set(document, new Promise((resolve) => (goOn = () => resolve())));
-      for (const end = this.#clock.now() + HOLD_MS; open.uses > 1; await pauseBy(this.#clock, 1)) {
-        if (this.#clock.now() > end) throw new Error("it is in use");
-      }
-    };
-    const { atStep = () => {} } = this.#options;
+    const held = new Holding(this.#renewing, document, open, this.#clock);
+    let made;
     try {
-      const made = await nextGeneration({
-        folder: this.folder, document, record, open, hold, atStep,
-        decide: (...made) => this.#decide(document, shared, ...made),
-        next: (generation) => this.#openOf(document, document, record, generation),
-      });
-      return await this.#goOnIn(document, open, made);
+      made = await this.#goOnIn(document, open, await this.#made(document, open, record, held));
     } catch (error) {
-      await this.folder.tidy(document, record).catch(() => {});
+      await this.#goOnByRecord(document, record.generation).catch(() => {});
       throw error;
     } finally {
-      this.#renewing.delete(document);
-      goOn();
+      held.end();
       await shared?.release().catch(() => {}); // it ends by itself
     }
+    this.renewals.note(held.longest);
+    this.renewed(document, made.generation);
+    await this.#dropOld(document, made).catch(() => {});
+    return made;
+  }
+
+  /** Behind a renewal that failed the document goes on as its record says, which may have been written.
+   *  @param {string} document @param {string} generation of before */
+  async #goOnByRecord(document, generation) {
+    const record = await this.folder.record(document).catch(() => undefined);
+    const open = this.#documents.get(document);
+    if (record?.generation !== generation && open) await this.#end(open);
+    if (record) await this.folder.tidy(document, record);
+  }
+
+  /** @param {string} document @param {OpenDocument} open @param {Record} record
+   *  @param {Holding} held */
+  #made(document, open, record, held) {
+    const shared = this.#shared.get(document);
+    const { atStep = () => {} } = this.#options;
+    return nextGeneration({
+      folder: this.folder, document, record, open, atStep,
+      quiet: async (work) => {
+        try {
+          await Promise.all([held.begin(), shared?.stream.pause()]);
+          return await work();
+        } finally {
+          shared?.stream.resume();
+          held.end();
+        }
+      },
+      hold: async () => {
+        await shared?.gather("renews");
+        await held.begin();
+      },
+      decide: (...made) => this.#decide(document, shared, ...made),
+      next: (generation) => this.#openOf(document, document, record, generation),
+    });
   }
 
   /** Decides that a generation follows, where hubs share the document. Throws where another one does.
    *  @param {string} document @param {SharedDocument | undefined} shared
-   *  @param {string} generation @param {string} map @param {string[]} operations */
+   *  @param {string} generation @param {string} map @param {Operation[]} operations */
   async #decide(document, shared, generation, map, operations) {
     const { fleet } = this.#options;
     if (!fleet || !shared) return;
@@ -685,7 +807,6 @@ export class Shelf {
    *  @param {string} document @param {OpenDocument} open
    *  @param {{ open: OpenDocument, record: Record }} made */
   async #goOnIn(document, open, made) {
-    made.open.noteSize(made.record.began, (await made.open.askReplicas()) ?? []);
     made.open.opening = Promise.resolve(true);
     made.open.usedAt = this.#clock.now();
     this.#documents.set(document, made.open);
@@ -695,7 +816,6 @@ export class Shelf {
     await this.#unshare(document, true);
     await this.#share(document, made.open, made.record);
     open.close().then(() => open.noteClosed());
-    await this.#dropOld(document, made.record).catch(() => {});
     return made.record;
   }
 

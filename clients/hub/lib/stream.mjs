@@ -55,6 +55,7 @@ export class Stream {
   #beginning;
   #isStale = false;
   #isReady = false;
+  #isPaused = false;
   #isEnded = false;
 
   /** @param {StreamOptions} options */
@@ -138,7 +139,7 @@ export class Stream {
         if (fields[at] === "notice") isNoticed = true;
       }
     }
-    if (this.#queue.length > 0) this.#draining ??= this.#drain();
+    this.#goOn();
     if (isNoticed && this.#isReady) this.#options.noticed();
   }
 
@@ -158,11 +159,26 @@ export class Stream {
     }
   }
 
+  /** Resolves once nothing is being delivered. What is taken waits until it goes on. */
+  async pause() {
+    this.#isPaused = true;
+    await this.#draining;
+  }
+
+  resume() {
+    this.#isPaused = false;
+    this.#goOn();
+  }
+
+  #goOn() {
+    if (this.#queue.length > 0 && !this.#isPaused) this.#draining ??= this.#drain();
+  }
+
   /** Delivers what was taken, until nothing is left that can be delivered. */
   async #drain() {
     await undefined;
     try {
-      while (this.#queue.length > 0 && !this.#isEnded) await this.#deliverSome();
+      while (this.#queue.length > 0 && !this.#isPaused && !this.#isEnded) await this.#deliverSome();
     } catch (error) {
       this.#isReady = false; // what was delivered isn't known: it is begun again
       this.#queue = [];

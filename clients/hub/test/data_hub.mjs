@@ -46,5 +46,16 @@ export function serversOf(folder) {
   });
 }
 
+/** Kills some of the servers below a folder. One that has ended meanwhile is left out. */
+export function killServersOf(folder, choose = (ids) => ids) {
+  for (const id of choose(serversOf(folder))) {
+    try {
+      process.kill(id, "SIGKILL");
+    } catch (error) {
+      if (error.code !== "ESRCH") throw error;
+    }
+  }
+}
+
 export const health = async ({ page }) => (await fetch(`${page}health`)).json();
 export const metrics = async ({ page }) => (await fetch(`${page}metrics`)).text();

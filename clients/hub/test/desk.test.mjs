@@ -66,6 +66,20 @@ suite("what who runs it does", { concurrency: true }, () => {
     });
   }
 
+  test("a name that a document can't get is refused before any client is dropped", async () => {
+    const hub = await startDataHub();
+    const client = await joinLines(hub.lines, "trip", "plans");
+    await client.assign("trip", [0, "title"], "Oslo");
+    await client.let("trip", "it", [0, "title"]);
+    for (const [name, said] of [["plans", /there is a document plans/], ["../plans", /1 to 32 of a-z/], ["trip", /there is a document trip/]]) {
+      const { status, stderr } = await command(hub.folder, "rename", "trip", name);
+      equal(status, 1);
+      match(stderr, said);
+    }
+    deepEqual(await client.values("trip", ["it"]), ["Oslo"]); // its session goes on, with its variables
+    deepEqual((await client.list()), ["plans", "trip"]);
+  });
+
   test("a copy of the folder goes on under other names", async () => {
     const hub = await startDataHub();
     const client = await joinLines(hub.lines, "d");

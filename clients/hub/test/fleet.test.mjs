@@ -7,8 +7,10 @@ import { join } from "node:path";
 import { test } from "node:test";
 import { memoryStore, Provider } from "../../js/provider.mjs";
 import { command, health } from "./data_hub.mjs";
-import { assign, fleetOf, found, isFounded, lacking, LEASE, recordOf, RedisServer, sees, startFleetHub } from "./redis_parts.mjs";
-import { atEnd, joinLines, kill, pause, suite, until } from "./support.mjs";
+import {
+  assign, fleetOf, found, isFounded, lacking, LEASE, recordOf, RedisServer, sees, startFleetHub, startStoppedHub, Way,
+} from "./redis_parts.mjs";
+import { atEnd, joinLines, kill, pause, Raw, ROOM, suite, until } from "./support.mjs";
 
 async function provider(hub, word, document = "d") {
   const opened = await Provider.open({ document, at: hub.lines, store: memoryStore(), word });
@@ -23,6 +25,18 @@ async function renew(hubs, name = "d") {
       const { status, lines: [generation], stderr } = await command(hub.folder, "renew", name);
       if (status === 0) return { hub, generation };
       match(stderr, /home|founded|renewed|other hub|can't be opened/);
+    }
+    return undefined;
+  });
+}
+
+/** Deletes a document at whichever of these hubs is home of it, and returns that, and what it is in its bin. */
+async function removed(hubs, name = "d") {
+  return until("a hub deletes it", async () => {
+    for (const home of hubs) {
+      const { status, lines: [entry], stderr } = await command(home.folder, "delete", name);
+      if (status === 0) return { home, entry };
+      match(stderr, /home and deletes it|founded/);
     }
     return undefined;
   });
@@ -164,7 +178,91 @@ suite("fleet", { skip: lacking, concurrency: true }, () => {
     await renew([a]);
     deepEqual((await health(a)).fleet, { hub: "a", connected: true, founded: true });
     const renamed = await command(a.folder, "rename", "d", "e");
-    match(renamed.stderr, /of several hubs/);
+    match(renamed.stderr, /keeps its name/);
+    equal((await ada.keys("d", [0])).length, 1); // nobody was dropped
+  });
+
+  test("a document that is deleted at its home goes into the bin of each hub, also of one that was away", async () => {
+    const redis = await RedisServer.started();
+    const way = await Way.to(redis);
+    const hubs = [await startFleetHub(redis, "a"), await startFleetHub(redis, "b"), await startFleetHub(way, "c"),
+      await startFleetHub(redis, "e")];
+    await found(...hubs);
+    const clients = [];
+    for (const { lines } of hubs) clients.push(await joinLines(lines, "d", "other"));
+    await assign(clients[0], "x", 1);
+    await assign(clients[0], "x", 1, "other");
+    for (const it of clients) await sees(it, "x", 1);
+    const ada = await provider(hubs[0], "ada");
+    await ada.synced(240);
+    const [, , c, e] = hubs;
+    await kill(e.child);
+    way.cut();
+    await clients[2].assign("d", [0, "late"], 2); // within its lease: nobody else learns of it
+    const { home, entry } = await removed(hubs.slice(0, 2));
+    match(entry, /^d\.\d+$/);
+    for (const hub of hubs.slice(0, 2)) await until(`${hub.name} has none`, () => !has(hub, "d"));
+    deepEqual((await command(home.folder, "bin")).lines, [entry]);
+    await rejects(clients[0].keys("d", [0])); // it was dropped
+    await until("a provider says why", () => /has no document d/.test(ada.state.why));
+    deepEqual(ada.replica.values([0, "x"]), [1]); // what it has stays with it
+    way.mend();
+    hubs[3] = await startFleetHub(redis, "e", e.folder);
+    for (const hub of hubs) await until(`${hub.name} has none`, () => !has(hub, "d") && has(hub, "other"));
+    await pause(LEASE * 1000);
+    for (const { lines } of hubs) deepEqual(await (await joinLines(lines, "other")).list(), ["other"]);
+    // What was taken late is in that hub's bin.
+    const [kept] = (await command(c.folder, "bin")).lines;
+    match((await command(c.folder, "restore", kept)).stderr, /its name isn't used again/);
+    equal((await command(c.folder, "restore", kept, "again")).status, 0);
+    for (const { lines } of hubs) {
+      const client = await joinLines(lines, "other");
+      await until("it is there", async () => (await client.list()).includes("again"));
+      await client.open("again");
+      await sees(client, "late", 2, "again");
+    }
+  });
+
+  test("what is deleted isn't brought back by an emptied Redis, nor made again", async () => {
+    const redis = await RedisServer.started();
+    const hubs = await fleetOf(redis, "a", "b");
+    const ada = await joinLines(hubs[0].lines, "d", "other");
+    for (const name of ["d", "other"]) await assign(ada, "x", 1, name);
+    for (const hub of hubs) await until(`${hub.name} has both`, () => ["d", "other"].every((it) => has(hub, it)));
+    await kill(hubs[1].child);
+    await pause(LEASE * 1000);
+    await removed([hubs[0]]);
+    await kill(hubs[0].child);
+    redis.ask("FLUSHALL");
+    hubs[0] = await startFleetHub(redis, "a", hubs[0].folder);
+    hubs[1] = await startFleetHub(redis, "b", hubs[1].folder);
+    await found(...hubs);
+    for (const hub of hubs) await until(`${hub.name} has none`, () => !has(hub, "d"));
+    equal(redis.ask("SMEMBERS", "jcrdt:hubs:deleted"), "d");
+    const raw = new Raw(hubs[0].lines);
+    for (const word of ["open", "create"]) match(await raw.ask([word, "d"]), /"no",4,/);
+    match((await command(hubs[1].folder, "create", "d")).stderr, /its name isn't used again/);
+    const c = await startFleetHub(redis, "c"); // one that joins doesn't make it either
+    await isFounded(c);
+    await pause(LEASE * 1000);
+    for (const hub of [...hubs, c]) equal(has(hub, "d"), false);
+  });
+
+  test("a home that is killed once it has deleted a document: it is deleted", async () => {
+    const redis = await RedisServer.started();
+    const a = await startStoppedHub(redis, "a", join(ROOM, "removing-a"), "removed", "SIGKILL");
+    const b = await startFleetHub(redis, "b");
+    await found(b);
+    await assign(await joinLines(a.lines, "d"), "x", 1);
+    await until("b has it", () => has(b, "d"));
+    await until("it is killed", async () => {
+      await command(a.folder, "delete", "d");
+      return a.child.signalCode === "SIGKILL";
+    });
+    equal(has(a, "d"), true);
+    await until("b has none", () => !has(b, "d"));
+    const again = await startFleetHub(redis, "a", a.folder);
+    await until("a has none", () => !has(again, "d"));
   });
 
   test("a document is removed for good once no hub runs, at each folder and in Redis", async () => {

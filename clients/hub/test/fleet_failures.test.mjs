@@ -12,7 +12,7 @@ import {
 } from "./redis_parts.mjs";
 import { joinLines, kill, pause, suite, until } from "./support.mjs";
 
-const STEPS = ["file", "deliver", "map", "record", "renewed"];
+const STEPS = ["file", "deliver", "hold", "meanwhile", "map", "record", "renewed"];
 const LEASE_MS = LEASE * 1000;
 
 /** Has whichever hub is home of `d` renew it, and returns the generation. */

@@ -1,14 +1,14 @@
 /* Three hubs that share a document by a real Redis, while clients change it all the time and hubs, their
    servers and Redis are stopped, killed, cut off and emptied at random, and the document is renewed: all is as
-   `checkFleet` says. With JCRDT_SLOW it takes an hour. */
+   `checkFleet` says. With JCRDT_SLOW it takes an hour, else as long as SECONDS says. */
 
 import { ok } from "node:assert/strict";
 import { test } from "node:test";
-import { command, serversOf } from "./data_hub.mjs";
+import { command, killServersOf } from "./data_hub.mjs";
 import { checkFleet, found, isFounded, lacking, LEASE, RedisServer, startFleetHub, Way, Writers } from "./redis_parts.mjs";
 import { kill, pause, randomOf, suite } from "./support.mjs";
 
-const SECONDS = process.env.JCRDT_SLOW ? 3600 : 45;
+const SECONDS = process.env.JCRDT_SLOW ? 3600 : Number(process.env.SECONDS ?? 45);
 const SEED = Number(process.env.SEED ?? Date.now() % 2 ** 31);
 
 suite("fleet soak", { skip: lacking, timeout: (SECONDS + 1500) * 1000 }, () => {
@@ -41,10 +41,7 @@ suite("fleet soak", { skip: lacking, timeout: (SECONDS + 1500) * 1000 }, () => {
         await pause(random() * 1000);
         hubs[name] = await startFleetHub(ways[name], name, hubs[name].folder);
       },
-      server: async (name) => {
-        const [id] = serversOf(hubs[name].folder);
-        if (id) process.kill(id, "SIGKILL");
-      },
+      server: async (name) => killServersOf(hubs[name].folder, (ids) => ids.slice(0, 1)),
       cut: async (name) => {
         ways[name].cut();
         await Promise.all([renew(), pause(random() * 2.5 * LEASE * 1000)]);

@@ -10,11 +10,11 @@ import { Browser, missing } from "../../js/test/chromium.mjs";
 import { fileStore } from "../../js/file_store.mjs";
 import { memoryStore, Provider } from "../../js/provider.mjs";
 import { Conflict, Counter, Refused } from "../../js/wire.mjs";
-import { command, freshFolder, startDataHub, startNode } from "./data_hub.mjs";
-import { atEnd, joinLines, kill, pause, PROGRAM, Raw, ROOM, suite, until, within } from "./support.mjs";
+import { command, freshFolder, health, startDataHub, startNode } from "./data_hub.mjs";
+import { atEnd, hubWithin, joinLines, kill, pause, PROGRAM, Raw, ROOM, suite, until, within } from "./support.mjs";
 
 const KILLED = fileURLToPath(new URL("killed_hub.mjs", import.meta.url));
-const STEPS = ["file", "deliver", "map", "record", "renewed"];
+const STEPS = ["file", "deliver", "hold", "meanwhile", "map", "record", "renewed"];
 const NOT_OF_NOW = '["no",106,"renewed"]';
 
 /** A provider of the document `d`, until the suite ends. */
@@ -367,7 +367,7 @@ suite("generations", { concurrency: true }, () => {
     await raw.ask(["open", "d"]);
     const fake = ["op", [1, "gen3-aaaaaaaaaa-1"], [], [[["m", 0]], "k"], ["assign", 9]];
     for (const request of [
-      ["ops", "d", old, 64], ["page", "d", old, 1000],
+      ["ops", "d", old, 64], ["page", "d", old, 1000], ["chains", "d", [], old],
       ["deliver", "d", ["op", [1, "bob"], [], [[["m", 0]], "k"], ["assign", 3]]],
       ["deliver", "d", ["op", [2, "bob"], [id].map(([at, name]) => [name, at]), [[["m", 0]], "k"], ["assign", 3]]],
       ["deliver", "d", fake],
@@ -416,6 +416,23 @@ suite("generations", { concurrency: true }, () => {
     for (const it of [client, other]) it.end();
   });
 
+  test("a generation of before has a server while it is read, and the document keeps its own", async () => {
+    const hub = await startDataHub();
+    const client = await joinLines(hub.lines, "d");
+    for (let at = 0; at < 3; at++) {
+      await client.assign("d", [0, "k"], at);
+      await renew(hub.folder);
+    }
+    const past = (await client.history("d")).slice(0, -1).map(([name]) => `d/${name}`);
+    for (const name of past) {
+      await client.open(name);
+      equal((await client.values(name, [0, "k"])).length, 1);
+    }
+    await until("theirs have ended", async () => (await health(hub)).documents.open === 1); // within --close-after
+    deepEqual(await client.values(past[1], [0, "k"]), [1]);
+    client.end();
+  });
+
   test("from so many operations on it is renewed by itself, while it is typed into", async () => {
     const hub = await startDataHub(freshFolder(), "--renew-at", "300");
     const [ada, bob] = [await provider(hub.lines, "ada"), await provider(hub.lines, "bob")];
@@ -438,10 +455,19 @@ suite("generations", { concurrency: true }, () => {
   test("what sessions change while it is renewed is in the next generation", async () => {
     const hub = await startDataHub();
     const clients = await Promise.all(Array.from({ length: 6 }, () => joinLines(hub.lines, "d")));
+    await clients[0].assign("d", [0, "list"], []);
+    await Promise.all(Array.from({ length: 1200 }, (_, at) => clients[at % 6].insert("d", [0, "list", 0], at)));
+    const before = await clients[0].plain("d", [0, "list"]);
     let [answered, isOn] = [0, true];
+    const keys = new Set();
     const adding = clients.map(async (client, at) => {
-      for (; isOn; answered++) {
+      for (let own = 0; isOn; answered++) {
         await client.add("d", [0, "n"], 1);
+        const key = `of-${at}-${own++}`;
+        await client.assign("d", [0, "map", key], at);
+        if (own % 3 === 0) await client.delete("d", [0, "map", key]);
+        else keys.add(key);
+        if (at === 0) await client.insert("d", [0, "list", 7], `${own}`);
         await pause(Math.random() * 3 * at);
       }
     });
@@ -454,8 +480,51 @@ suite("generations", { concurrency: true }, () => {
     isOn = false;
     await Promise.all(adding);
     equal(Number(await clients[0].sum("d", [0, "n"])), answered);
+    deepEqual(await clients[0].keys("d", [0, "map"]), [...keys].sort());
+    const list = await clients[0].plain("d", [0, "list"]);
+    deepEqual(list.filter((it) => typeof it === "number"), before, "those of before keep their order");
+    const words = list.filter((it) => typeof it === "string");
+    deepEqual(words, words.map((_, at) => `${words.length - at}`));
     ok(answered > 20);
     clients.forEach((it) => it.end());
+  });
+
+  test("changes are answered while most of the next generation is made", async () => {
+    const steps = [];
+    let change = () => {};
+    const atStep = (step) => {
+      if (step === "deliver") change().then(() => steps.push("answered"));
+      steps.push(step);
+    };
+    const hub = await hubWithin({ data: freshFolder(), program: PROGRAM, lines: "127.0.0.1:0", atStep, note() {} });
+    const clients = await Promise.all(Array.from({ length: 16 }, () => joinLines(hub.lines, "d")));
+    await Promise.all(Array.from({ length: 6000 }, (_, at) => clients[at % 16].assign("d", [0, `k${at}`], at)));
+    change = () => clients[0].assign("d", [0, "k7"], "meanwhile");
+    await hub.documents.renew("d");
+    deepEqual(steps.filter((it) => ["deliver", "answered", "hold"].includes(it)), ["deliver", "answered", "hold"]);
+    deepEqual(await clients[1].values("d", [0, "k7"]), ["meanwhile"]);
+    const [, held] = /^jcrdt_hub_renewal_held_seconds (.*)$/m.exec(await hub.metrics());
+    ok(Number(held) > 0 && Number(held) < 60, held);
+    match(await hub.metrics(), /^jcrdt_hub_renewals_total 1$/m);
+  });
+
+  test("a renewal that fails once its record is written: the document goes on in that generation", async () => {
+    const data = freshFolder();
+    const options = { data, program: PROGRAM, lines: "127.0.0.1:0", note() {} };
+    const hub = await hubWithin({ ...options, atStep(step) {
+      if (step === "renewed") throw new Error("the disk fails");
+    } });
+    const client = await joinLines(hub.lines, "d");
+    await client.assign("d", [0, "k"], 1);
+    // On a busy machine it may fail before.
+    await until("it has come so far", () => hub.documents.renew("d").then(() => false, (error) => /the disk fails/.test(error.message)));
+    await client.assign("d", [0, "later"], 2);
+    const history = await client.history("d");
+    deepEqual(history.map(([name]) => name), ["1", record(data).generation]);
+    await hub.stop();
+    const again = await hubWithin(options);
+    deepEqual(await (await joinLines(again.lines, "d")).keys("d", [0]), ["k", "later"]);
+    await again.stop();
   });
 
   test("a hub that has another history says so, and gets nothing", async () => {

@@ -1,6 +1,6 @@
 /* A pad of five people, two of them offline for long stretches, through generations by random typing, with
    kills of servers and of the hub: equal texts, nothing that was stored is lost, and nothing is there twice.
-   With JCRDT_SLOW it takes an hour. */
+   With JCRDT_SLOW it takes an hour, else as long as SECONDS says. */
 
 import { deepEqual, equal, ok } from "node:assert/strict";
 import { join } from "node:path";
@@ -8,15 +8,16 @@ import { test } from "node:test";
 import { fileURLToPath } from "node:url";
 import { fileStore } from "../../js/file_store.mjs";
 import { Provider } from "../../js/provider.mjs";
-import { command, freshFolder, serversOf, startNode } from "./data_hub.mjs";
+import { command, freshFolder, killServersOf, startNode } from "./data_hub.mjs";
 import { atEnd, kill, pause, PROGRAM, randomOf, ROOM, suite, until } from "./support.mjs";
 
 const KILLED = fileURLToPath(new URL("killed_hub.mjs", import.meta.url));
-const STEPS = ["file", "deliver", "map", "record", "renewed"];
-const SECONDS = process.env.JCRDT_SLOW ? 3600 : 60;
-const GENERATIONS = 6; // the first, and five that follow
+const STEPS = ["file", "deliver", "hold", "meanwhile", "map", "record", "renewed"];
+const SECONDS = process.env.JCRDT_SLOW ? 3600 : Number(process.env.SECONDS ?? 60);
+const GENERATIONS = STEPS.length + 1; // the first, and one behind a kill at each step
 const SEED = Number(process.env.SEED ?? Date.now() % 2 ** 31);
 
+const isIn = (generation, { replica }) => replica.front().some(([name]) => name === `gen${generation}-1`);
 const textOf = ({ replica }) => replica.items([0, "text"]).map(([, [word]]) => word);
 
 suite("a pad through generations", { timeout: (SECONDS + 1500) * 1000 }, () => {
@@ -74,11 +75,13 @@ suite("a pad through generations", { timeout: (SECONDS + 1500) * 1000 }, () => {
         await command(folder, "renew", "pad");
         await hub.ended;
         await begin();
-        const { status, stderr } = await command(folder, "renew", "pad");
+        const { status, stderr, lines: [generation] } = await command(folder, "renew", "pad");
         equal(status, 0, stderr);
         renewals++;
+        const isThere = ({ one, isOffline }) => isOffline || isIn(generation, one);
+        await until("who is online follows", () => people.every(isThere), 600);
       }
-      if (rounds % 10 === 5) for (const id of serversOf(folder)) process.kill(id, "SIGKILL");
+      if (rounds % 10 === 5) killServersOf(folder);
     }
     for (const person of people) person.one.goOnline();
     await until("all have the same", async () => {

@@ -4,7 +4,7 @@
 
 import { deepEqual, equal, match, ok } from "node:assert/strict";
 import { execFileSync } from "node:child_process";
-import { mkdirSync, readFileSync, readdirSync, writeFileSync } from "node:fs";
+import { copyFileSync, existsSync, mkdirSync, readFileSync, readdirSync, rmSync, writeFileSync } from "node:fs";
 import http from "node:http";
 import https from "node:https";
 import net from "node:net";
@@ -885,6 +885,58 @@ test("a text pad that may only read takes no keys, and shows what others type", 
   await reader.type("#text", "not taken");
   await writer.type("#text", "Hello");
   await reader.until(`document.querySelector("#text").value === "Hello"`);
+});
+
+/** Assigns a value at the page's document, in a session of its own. */
+async function assign(address, value) {
+  const client = await connected(address, { seconds: 300 });
+  await client.open("page");
+  await client.assign("page", [0, "k"], value);
+  await client.quit();
+}
+
+/** Copies what a server that has ended left. */
+function copied(from, to) {
+  for (const it of ["", "-wal", "-shm"]) {
+    rmSync(`${to}/test.db${it}`, { force: true });
+    if (existsSync(`${from}/test.db${it}`)) copyFileSync(`${from}/test.db${it}`, `${to}/test.db${it}`);
+  }
+}
+
+test("a server whose older file is put back: the text pad says so, and makes its changes again", async () => {
+  const { browser } = await (shared ??= sharedParts());
+  const [folder, backup, more] = [room(), room(), ["--durable"]];
+  let server = await startServer(["page"], { folder, more });
+  const { address } = server;
+  const startAgain = async () => (server = await startServer(["page"], { folder, address, more }));
+  await assign(address, "first");
+  await end(server);
+  copied(folder, backup);
+  await startAgain();
+  await assign(address, "seen");
+  const hub = await startHub(address);
+  const tab = await browser.tab(`${hub.page}web/pad.html`);
+  await tab.until(PAD_ONLINE);
+  await tab.type("#text", "Hello");
+  const shown = async () => {
+    const client = await connected(address, { seconds: 300 });
+    await client.open("page");
+    const found = await client.plain("page", [0]);
+    await client.quit();
+    return { k: found.k, text: (found.text ?? []).join("") };
+  };
+  await until("it is at the server", async () => (await shown()).text === "Hello");
+  await end(server);
+  copied(backup, folder);
+  await startAgain();
+  await assign(address, "another");
+  await tab.until(`document.querySelector("#problem").textContent.includes("other operations of srv-2")`);
+  deepEqual(await shown(), { k: "another", text: "" });
+  await tab.evaluate(`[...document.querySelectorAll("#problem button")]
+    .find((it) => it.textContent === "Make them again").click()`);
+  await tab.until(PAD_ONLINE);
+  await until("its changes are there", async () => (await shown()).text === "Hello");
+  deepEqual(await shown(), { k: "another", text: "Hello" });
 });
 
 test("behind a proxy with TLS, below a path", async () => {

@@ -26,7 +26,7 @@ const freePort = () => new Promise((resolve, reject) => {
 /** A Redis until the suite ends. It can be killed, and started again at its port. */
 export class RedisServer {
   static async started(...words) {
-    const redis = new RedisServer(await freePort(), words);
+    const redis = new this(await freePort(), words);
     atEnd(() => redis.kill());
     await redis.start();
     return redis;
@@ -39,8 +39,13 @@ export class RedisServer {
     this.folder = mkdtempSync(join(ROOM, "redis-"));
   }
 
+  /** The words by which it listens, and by which redis-cli asks it. */
+  get ways() {
+    return { served: ["--port", `${this.port}`], asked: ["-p", `${this.port}`] };
+  }
+
   async start() {
-    const words = ["--port", `${this.port}`, "--bind", "127.0.0.1", "--save", "", "--dir", this.folder, ...this.words];
+    const words = [...this.ways.served, "--bind", "127.0.0.1", "--save", "", "--dir", this.folder, ...this.words];
     this.child = spawn("redis-server", words, { stdio: "ignore" });
     this.ended = new Promise((resolve) => this.child.on("close", resolve));
     await until("Redis answers", () => this.ask("PING") === "PONG");
@@ -48,7 +53,7 @@ export class RedisServer {
 
   /** Runs a command, and returns what redis-cli writes. */
   ask(...words) {
-    return spawnSync("redis-cli", ["-p", `${this.port}`, ...words], { encoding: "utf8" }).stdout.trim();
+    return spawnSync("redis-cli", [...this.ways.asked, ...words], { encoding: "utf8" }).stdout.trim();
   }
 
   signal = (name) => this.child.kill(name);
@@ -264,7 +269,8 @@ export async function checkFleet(hubs, writers, { document = "d", away = Infinit
     const next = numbers.get(it) + 1;
     if (!isOver(it, firsts.get(next) ?? Infinity)) return false;
     const again = taken.filter((other) => numbers.get(other) === next && other.sent > away);
-    return it.sent < away || isOver(it, Math.min(...again.map(({ received }) => received)));
+    // A hub holds back what it has no right to take yet: what was sent before `away` may be taken later.
+    return it.received < away || isOver(it, Math.min(...again.map(({ received }) => received)));
   });
   deepEqual(late.map(({ key, replica }) => [key, replica]), [], "taken in a generation that was over");
   return Math.max(...firsts.keys());

@@ -27,7 +27,7 @@ const CHANGES = [
 ];
 const READINGS = [
   ["values", "d", [0, "k"]], ["show", "d", [0]], ["front", "d"], ["ops", "d", [], 64], ["watch", "d"], ["watch", "d", "ops"],
-  ["page", "d", [], 9],
+  ["page", "d", [], 9], ["chains", "d", [], [["srv-1", 1]]],
   ["let", "d", "it", [0, "k"]], ["hear", "d"], ["say", "d", 1], ["held", "d"], ["account", "d"],
 ];
 

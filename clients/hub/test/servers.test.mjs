@@ -8,7 +8,7 @@ import { test } from "node:test";
 import { fileURLToPath } from "node:url";
 import { memoryStore, Provider } from "../../js/provider.mjs";
 import { TestClock } from "../../js/test/clock.mjs";
-import { AWAY, freshFolder, health, metrics, serversOf, startDataHub, startNode } from "./data_hub.mjs";
+import { AWAY, freshFolder, health, killServersOf, metrics, serversOf, startDataHub, startNode } from "./data_hub.mjs";
 import {
   atEnd, HUB, hubWithin, joinLines, kill, lacks, pause, PROGRAM, Raw, ROOM, suite, until, within,
 } from "./support.mjs";
@@ -227,7 +227,7 @@ suite("servers that come and go", { concurrency: true }, () => {
     for (const it of both) await it.synced(240);
     for (let round = 0; round < 30; round++) {
       both[round % 2].replica.splice([0, "text"], 0, 0, [`${round}`]);
-      if (round % 10 === 4) for (const id of serversOf(folder)) process.kill(id, "SIGKILL");
+      if (round % 10 === 4) killServersOf(folder);
       if (round % 10 === 8) {
         await kill(hub.child);
         const words = ["--data", folder, "--program", PROGRAM, "--lines", at, "--close-after", "1"];

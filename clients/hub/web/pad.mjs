@@ -90,14 +90,15 @@ function showOthers(pad) {
   find(document, "#here").replaceChildren(...(shown.length > 0 ? ["Here: ", ...shown] : []));
 }
 
-/** What to do with changes that the server refuses.
+/** What to do with changes that the server refuses, or where it has others of somebody.
  *  @param {Provider} pad */
 function ways(pad) {
-  const words = ["Save as a file", "Take them back"];
-  const [keep, discard] = words.map((it) => element("button", "", it));
+  const words = ["Save as a file", "Take them back", "Make them again"];
+  const [keep, discard, again] = words.map((it) => element("button", "", it));
   keep.addEventListener("click", () => save(`${documentName}-pad.jcrdt`, pad.saved));
   discard.addEventListener("click", () => pad.discardRefused().catch(note));
-  return [keep, discard];
+  again.addEventListener("click", () => pad.remakeRefused().catch(note));
+  return pad.state.refused?.differs ? [keep, discard, again] : [keep, discard];
 }
 
 /** @param {unknown} error */

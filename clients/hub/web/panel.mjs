@@ -126,7 +126,7 @@ export class Panel {
   /** @param {import("../js/provider.mjs").Event} event */
   #hear({ what, why, lines = [] }) {
     if (what === "state") this.#showState();
-    if (what === "problem") this.#showProblems();
+    if (what === "state" || what === "problem") this.#showProblems();
     if (what !== "changed") return;
     if (why === "remade") [this.#log, this.#count] = [[], 0];
     if (why === "remade") nameSide(this.#side, this.#provider.replica.name);
@@ -151,7 +151,7 @@ export class Panel {
     const notices = problems.map(({ kind, words, lines }) => {
       const notice = element("p", kind, [words]);
       if (lines?.length) notice.append(this.#saveButton(kind, lines));
-      if (kind === "refused") notice.append(this.#discardButton());
+      if (kind === "refused") notice.append(...this.#refusedButtons());
       return notice;
     });
     find(this.root, ".notice").replaceChildren(...notices);
@@ -168,12 +168,14 @@ export class Panel {
     return button;
   }
 
-  #discardButton() {
-    const button = element("button", "", "Take them back");
-    button.addEventListener("click", () => {
-      this.#provider.discardRefused().catch((error) => this.#note(".votes-note", error));
-    });
-    return button;
+  /** What to do with changes that the server refuses, or where it has others of somebody. */
+  #refusedButtons() {
+    const provider = this.#provider;
+    const [discard, again] = ["Take them back", "Make them again"].map((it) => element("button", "", it));
+    const note = (/** @type {unknown} */ error) => this.#note(".votes-note", error);
+    discard.addEventListener("click", () => provider.discardRefused().catch(note));
+    again.addEventListener("click", () => provider.remakeRefused().catch(note));
+    return provider.state.refused?.differs ? [discard, again] : [discard];
   }
 
   // ---- What is shown

@@ -3,11 +3,14 @@
 import { deepEqual, equal, ok, rejects, throws } from "node:assert/strict";
 import { test } from "node:test";
 import { Away, Counter, Replica, connected, freshName, parse, plain, print } from "../index.mjs";
+import { NAME_USED_TWICE } from "../protocol.mjs";
 import { engines } from "./engines.mjs";
 import { dice } from "./random.mjs";
 import { startServer } from "./support.mjs";
 
 const LIMIT = { timeout: 900_000 };
+const LOST = "the module: what a server loses by a kill while it is compared doesn't differ";
+const KILLED = "the module: behind a kill a server has others' operations in place of what was here: it is seen";
 
 /** @param {import("../session.mjs").Client} client
  *  @returns {(line: string) => Promise<string>} */
@@ -31,6 +34,7 @@ function fakeServer(lies = () => undefined) {
     if (word === "open") return '["opened",1]';
     if (word === "front") return print(["front", replica.front()]);
     if (word === "ops") return print(["ops", [...replica.operations(first)].slice(0, second)]);
+    if (word === "chains") return print(["chains", replica.chains(new Map(first), new Map(second))]);
     try {
       return print(replica.deliver(first));
     } catch (/** @type {any} */ refused) {
@@ -454,6 +458,75 @@ for (const [title, engine] of engines) {
     const again = Replica.restore(me.lines(), { engine });
     deepEqual(await again.sync(server.answer), { taken: 0, given: 0, refused: [] });
     equal(print(server.replica.show([0])), print(me.show([0])));
+  });
+
+  /** @type {[how: string, lies: (request: any[]) => any][]} */
+  const ways = [["", ([word]) => (word === "chains" ? ["no", 2, "bad-request"] : undefined)], [", by digests", () => undefined]];
+  for (const [how, lies] of ways) {
+    test(title === "the module" && how === "" ? KILLED : `${title}: behind a kill${how}`, LIMIT, async () => {
+      const before = fakeServer();
+      const base = replicaOf("me");
+      base.put([0, "list"], ["base"]);
+      await base.sync(before.answer);
+      const [me, copy, peer] = [opened(base), opened(base), replicaOf("peer")];
+      append(me, "lost");
+      append(copy, "copy");
+      await me.sync(before.answer);
+      await peer.sync(before.answer);
+      const server = fakeServer(lies); // its file had what `base` has
+      await base.sync(server.answer);
+      await copy.sync(server.answer);
+      const own = await me.sync(server.answer);
+      deepEqual(own.refused.map(({ number, own: isOwn }) => [NAME_USED_TWICE.has(number), isOwn]), [[true, true]]);
+      peer.add([0, "n"], 1);
+      const [counter, front] = [new Map(me.front()).get("me"), server.replica.front()];
+      for (let turn = 0; turn < 2; turn++) {
+        const { taken, given, differs, refused } = await peer.sync(server.answer);
+        deepEqual([taken, given, differs], [0, 0, { name: "me", counter }]);
+        deepEqual(refused.map(({ number, own: isOwn }) => [number, isOwn]), [[15, false]]);
+      }
+      deepEqual(server.replica.front(), front);
+      await me.remake("me-2", server.answer);
+      await exchanged(me, server.answer);
+      await peer.remake("peer-2", server.answer);
+      for (const it of [me, copy, peer]) {
+        await exchanged(it, server.answer);
+        deepEqual(listed(it), ["base", "copy", "lost"]);
+        equal(print(it.show([0])), print(server.replica.show([0])));
+      }
+    });
+  }
+
+  test(`${title}: what a server had a moment ago, and lost by a kill, is nobody else's`, LIMIT, async () => {
+    let isKilled = true;
+    const server = fakeServer(([word]) => (word === "front" && isKilled ? ["front", [["me", 2]]] : undefined));
+    const me = replicaOf("me");
+    me.put([0, "list"], ["base"]); // another has sent it, as a copy
+    await rejects(me.sync(server.answer), Away);
+    isKilled = false;
+    deepEqual(await me.sync(server.answer), { taken: 0, given: 2, refused: [] });
+  });
+
+  test(title === "the module" ? LOST : `${title}: lost while it is compared`, LIMIT, async () => {
+    const before = fakeServer();
+    const [me, peer] = [replicaOf("me"), replicaOf("peer")];
+    me.put([0, "list"], ["base"]);
+    for (const it of [me, peer]) await it.sync(before.answer);
+    for (const it of [peer, me]) {
+      let isKilled = true;
+      const server = fakeServer(([word]) => {
+        if (word !== "front" || !isKilled) return undefined;
+        isKilled = false;
+        return ["front", [["me", 2]]];
+      });
+      const report = await it.sync(server.answer).catch((error) => {
+        ok(error instanceof Away, String(error));
+        return it.sync(server.answer);
+      });
+      deepEqual([report.refused, report.differs], [[], undefined]);
+      await exchanged(it, server.answer);
+      equal(print(server.replica.show([0])), print(it.show([0])));
+    }
   });
 
   test(`${title}: another tab may send own operations, if it is said`, LIMIT, async () => {

@@ -3,7 +3,7 @@
 import { deepEqual, equal, match, ok, rejects, throws } from "node:assert/strict";
 import { spawn, spawnSync } from "node:child_process";
 import {
-  appendFileSync, copyFileSync, existsSync, lstatSync, readFileSync, readdirSync, renameSync, statSync, symlinkSync,
+  appendFileSync, copyFileSync, existsSync, lstatSync, readFileSync, readdirSync, renameSync, rmSync, statSync, symlinkSync,
   utimesSync, writeFileSync,
 } from "node:fs";
 import { once } from "node:events";
@@ -231,6 +231,77 @@ test("a damaged line: the others are taken, and it is said and kept", async () =
   deepEqual(third.replica.keys([0]), ["a", "d"]);
   equal(third.problems.size, 0);
   await third.close();
+});
+
+test("a damaged line of a file that an older package wrote, or of an export: it is said once, and kept", async () => {
+  const folder = room();
+  const file = `${folder}/notes`;
+  const first = await opened(file);
+  for (const key of ["a", "b"]) first.replica.assign([0, key], key);
+  const lines = first.saved.trimEnd().split("\n"); // without the mark
+  await first.close();
+  for (const [damaged, kept] of [[["", '["op",[3,"x"', "hello"], ["a", "b"]], [["hello"], ["a", "b"]]]) {
+    for (const it of readdirSync(folder)) rmSync(`${folder}/${it}`);
+    const text = [...lines, ...damaged].map((line) => `${line}\n`).join("");
+    writeFileSync(file, text);
+    const second = await opened(file);
+    deepEqual(second.replica.keys([0]), kept);
+    const { words, lines: lost } = second.problems.get("unread");
+    const unread = damaged.filter((line) => line !== "");
+    match(words, new RegExp(`^${unread.length} of ${unread.length + 2} stored lines couldn't be read or used`));
+    deepEqual(lost, unread);
+    await second.close();
+    equal(readFileSync(`${file}.old`, "utf8"), text);
+    const third = await opened(file);
+    equal(third.problems.size, 0);
+    await third.close();
+  }
+});
+
+test("an export whose last line has no end: that is taken where it is whole, and else kept", async () => {
+  const folder = room();
+  const file = `${folder}/notes`;
+  const first = await opened(file);
+  for (const key of ["a", "b"]) first.replica.assign([0, key], key);
+  const text = first.saved.trimEnd();
+  await first.close();
+  for (const [cut, keys] of [[text, ["a", "b"]], [text.slice(0, -1), ["a"]]]) {
+    for (const it of readdirSync(folder)) rmSync(`${folder}/${it}`);
+    writeFileSync(file, cut);
+    const second = await opened(file);
+    deepEqual(second.replica.keys([0]), keys);
+    await second.close();
+    equal(existsSync(`${file}.old`) && readFileSync(`${file}.old`, "utf8"), keys.length === 2 ? false : cut);
+  }
+});
+
+test("a copy of a file goes on under a name of its own; a file that was moved or killed keeps it", async () => {
+  const folder = room();
+  const [file, copy, moved] = [`${folder}/notes`, `${folder}/copy`, `${folder}/moved`];
+  const first = await opened(file);
+  const { name: empty } = first.replica;
+  copyFileSync(file, copy); // nothing was edited yet
+  const early = await opened(copy);
+  ok(early.replica.name !== empty);
+  await early.close();
+  first.replica.assign([0, "a"], 1);
+  copyFileSync(file, copy);
+  const bytes = readFileSync(file);
+  await first.close();
+  const running = await opened(copy);
+  ok(running.replica.name !== empty);
+  deepEqual(running.replica.values([0, "a"]), [1]);
+  const { name } = running.replica;
+  await running.close();
+  const again = await opened(copy); // it is no copy any more
+  equal(again.replica.name, name);
+  await again.close();
+  writeFileSync(file, bytes); // as a kill leaves it
+  renameSync(file, moved);
+  const last = await opened(moved);
+  equal(last.replica.name, empty);
+  await last.close();
+  deepEqual(readdirSync(folder).sort(), ["copy", "moved"]);
 });
 
 test("a line that is there twice is taken once", async () => {

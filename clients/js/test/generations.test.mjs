@@ -1,9 +1,9 @@
 /* A replica's way into a later generation: which one a log is of, and what of it is made again there. The
    expected operations are written by hand, by the rules of docs/RULES.md and FORMATS. */
 
-import { deepEqual, equal, notEqual } from "node:assert/strict";
+import { deepEqual, equal, notEqual, rejects } from "node:assert/strict";
 import { test } from "node:test";
-import { carried, composed, generationOf, isOfGeneration } from "../generations.mjs";
+import { carried, composed, generationOf, isOfGeneration, laterGenerations } from "../generations.mjs";
 import { nameOf } from "../names.mjs";
 import { openReplica } from "../replica.mjs";
 
@@ -166,4 +166,38 @@ test("a replica goes on with places, watches and undo", async () => {
   equal(ada.redo(), true);
   equal(ada.text([0, "t"]), "xcde");
   ada.free();
+});
+
+test("a document that is renewed whenever it is read, over connections that end: each step is read once", async () => {
+  const names = ["1", "2-aaaaaaaaaa"];
+  const asked = [];
+  let isCut = false;
+  const maker = (name) => `gen${name}-1`;
+  const answers = {
+    history: () => ["generations", names.map((it) => [it, 1, 1])],
+    map: (_, name) => ["map", [["old", 4]], [[maker(names[names.indexOf(name) + 1]), 3]], []],
+    open: () => ["opened", 1],
+    page: (doc) => {
+      if (doc !== "d") return ["ops", []];
+      if (names.length < 12) names.push(`${names.length + 1}-aaaaaaaaaa`);
+      if (names.length === 6 && !isCut) throw (isCut = true, new Error("cut"));
+      return ["ops", [["op", [1, maker(names.at(-1))], [], [[], 0], ["delete"]]]];
+    },
+  };
+  const answer = async (line) => {
+    const [word, ...rest] = JSON.parse(line);
+    if (word === "map" || word === "open") asked.push(line);
+    return JSON.stringify(answers[word](...rest));
+  };
+  const own = { name: "ada", forked: Infinity, made: new Map(), sessionOf: () => "" };
+  const replica = { doc: "d", front: () => [["ada", 7], ["old", 4]], operations: () => [LOG[5]], ownBefore: async () => own };
+  await rejects(laterGenerations(answer, replica), /cut/);
+  const { steps } = await laterGenerations(answer, replica);
+  equal(steps.length, 11);
+  deepEqual(steps.map(({ start }) => start[0][0]), names.slice(1).map(maker));
+  const first = asked.filter((it) => it === '["open","d/1"]');
+  const others = asked.filter((it) => it !== '["open","d/1"]');
+  equal(first.length > 1, true); // what the replica itself knows of it may be more each time
+  deepEqual(others, [...new Set(others)]);
+  equal(others.length, 11 + 10);
 });

@@ -114,6 +114,8 @@ const USE = `
   const state: State = notes.state;
   const word: "online" | "connecting" | "offline" | "refused" = state.word;
   const taken: string[] = await notes.discardRefused({ seconds: 1 });
+  const unmade: string[] = await notes.remakeRefused({ seconds: 1 });
+  const differing: string | undefined = state.refused?.differs?.name;
   const may: boolean | undefined = notes.canWrite;
   await notes.synced({ seconds: 5, signal: new AbortController().signal });
   const field = document.querySelector("textarea")!;

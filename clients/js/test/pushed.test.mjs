@@ -2,7 +2,7 @@
    doesn't fit, is pulled. Providers reach the hub through a proxy that counts and changes lines. */
 
 import { deepEqual, equal, ok, rejects } from "node:assert/strict";
-import { copyFileSync } from "node:fs";
+import { readFileSync, writeFileSync } from "node:fs";
 import { connect, createServer } from "node:net";
 import node from "node:test";
 import { fileURLToPath } from "node:url";
@@ -288,14 +288,21 @@ test("a session that follows a document and watches it hears both", async () => 
   await rejects(ada.follow("none", follower), { number: 5 });
 });
 
-test("two copies of one store type at a hub: nothing is lost, nothing is there twice", async () => {
+for (const isOld of [false, true]) {
+  const which = isOld ? "two copies of one store of an older package" : "two copies of one store";
+  test(`${which} type at a hub: nothing is lost, nothing is there twice`, () => typeBoth(isOld));
+}
+
+/** @param {boolean} isOld Whether both keep one name: the files don't say which they are. */
+async function typeBoth(isOld) {
   const { proxy } = await all();
   const folder = room();
   const first = await opened(proxy, { store: fileStore(`${folder}/one`) });
   first.replica.assign([0, "t"], []);
   await first.synced();
   await first.close();
-  copyFileSync(`${folder}/one`, `${folder}/two`);
+  const text = readFileSync(`${folder}/one`, "utf8");
+  writeFileSync(`${folder}/two`, isOld ? text.replace(/^(\["session","[^"]*").*$/gm, "$1]") : text);
   const copies = await Promise.all(["one", "two"].map((it) => opened(proxy, { store: fileStore(`${folder}/${it}`) })));
   const eve = await opened(proxy);
   const typed = [];
@@ -307,10 +314,10 @@ test("two copies of one store type at a hub: nothing is lost, nothing is there t
     if (key % 3 === 0) await until("the copies are exchanged", () => copies.every((it) => it.unsent.length === 0));
   }
   for (const it of copies) await it.synced(300);
-  await allHave([...copies, eve], 41);
+  await allHave([...copies, eve], isOld ? 41 : 42); // a copy says that it is one
   for (const it of [...copies, eve]) deepEqual(texts(it).sort(), typed.sort());
-  ok(copies.some(({ problems }) => problems.has("remade")));
-});
+  equal(copies.some(({ problems }) => problems.has("remade")), isOld);
+}
 
 test("the server's disk took changes back: they are given again through the hub", async () => {
   const { server, proxy } = await all();

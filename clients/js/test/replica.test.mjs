@@ -1,6 +1,7 @@
 /* The replica over each engine: texts, refusals, listeners, watches, restoring, speed. */
 
 import { deepEqual, equal, ok, throws } from "node:assert/strict";
+import { createHash } from "node:crypto";
 import { test } from "node:test";
 import { Conflict, Counter, Refused, Replica, freshName, plain, print } from "../index.mjs";
 import { engines } from "./engines.mjs";
@@ -44,6 +45,22 @@ for (const [title, engine] of engines) {
     const id = me.items([0, "text"])[1][0];
     deepEqual(me.values([0, "text", id]), ["e"]);
     deepEqual(me.place([0, "text", id, "k"]), [0, "text", id, "k"]);
+  });
+
+  test(`${title}: chains tell whose operations differ`, () => {
+    const [ada, other, bob] = ["ada", "ada", "bob"].map(replicaOf);
+    [ada, other, bob].forEach((replica, at) => replica.assign([0, "k"], at));
+    for (const replica of [ada, other]) replica.deliverAll(bob.operations());
+    const front = new Map(ada.front());
+    /** @param {string[]} lines */
+    const digest = (...lines) => createHash("sha256").update(lines.map((it) => `${it}\n`).join("")).digest("hex");
+    const chains = [ada, other].map((replica) => replica.chains(new Map(), front));
+    deepEqual(chains.map(([first]) => first), [ada, other].map((replica) => {
+      const [, line] = replica.lines();
+      return [...front].map(([name, counter]) => [name, counter, digest(line)])[0];
+    }));
+    ok(chains[0][0][2] !== chains[1][0][2] && chains[0][1][2] === chains[1][1][2]);
+    deepEqual(ada.chains(front, front), [...front].map(([name, counter]) => [name, counter, digest()]));
   });
 
   test(`${title}: two that type at one spot don't interleave`, () => {

@@ -1,7 +1,8 @@
-/* Copies of a store that are made while a program goes on with it, as by a backup: all go online. */
+/* Copies of a store that are made while a program goes on with it, as by a backup: all go online. A copy of a file
+   goes on under a name of its own. One of an older package, or of Python's, keeps the name, and says that it is one. */
 
 import { deepEqual, equal } from "node:assert/strict";
-import { copyFileSync } from "node:fs";
+import { readFileSync, writeFileSync } from "node:fs";
 import { connect, createServer } from "node:net";
 import { quickClock } from "./clock.mjs";
 import { dice } from "./random.mjs";
@@ -13,6 +14,7 @@ import { fileStore } from "../file_store.mjs";
  *  @property {string} file
  *  @property {string} at
  *  @property {string} document
+ *  @property {boolean} isOld Whether its copies don't know which file they are copies of.
  *  @property {import("../clock.mjs").Clock} [clock]
  *  @property {import("../provider.mjs").Provider} provider */
 
@@ -20,29 +22,48 @@ const WAIT = 1200; // seconds, of a quick clock, too
 /** By it a program waits little for what a copy may send: up to five seconds. */
 const clock = quickClock(4);
 
+/** A test of copies as they are, and as those of an older package are.
+ *  @param {string} name
+ *  @param {(isOld: boolean) => Promise<void>} work
+ *  @param {string} [old] The name of the second one. */
+function both(name, work, old = `${name}, of an older package`) {
+  test(name, () => work(false));
+  test(old, () => work(true));
+}
+
+/** Copies a file.
+ *  @param {string} file
+ *  @param {string} to
+ *  @param {boolean} isOld Whether it isn't said of which file it is a copy. */
+function copyStore(file, to, isOld) {
+  const text = readFileSync(file, "utf8");
+  writeFileSync(to, isOld ? text.replace(/^(\["session","[^"]*").*$/gm, "$1]") : text);
+}
+
 /** @param {string} file
  *  @param {string} at
  *  @param {string} [document]
+ *  @param {boolean} [isOld]
  *  @param {import("../clock.mjs").Clock} [clock]
  *  @returns {Promise<Program>} */
-async function storeOf(file, at, document = "d", clock) {
+async function storeOf(file, at, document = "d", isOld = false, clock = undefined) {
   const options = { document, store: fileStore(file), isOnline: false, word: "me", clock };
-  return { file, at, document, clock, provider: await opened(at, options) };
+  return { file, at, document, isOld, clock, provider: await opened(at, options) };
 }
 
 /** A program over a copy of a store.
  *  @param {Program} it
  *  @param {string} word */
-function copied({ file, at, document, clock }, word) {
-  copyFileSync(file, `${file}-${word}`);
-  return storeOf(`${file}-${word}`, at, document, clock);
+function copied({ file, at, document, isOld, clock }, word) {
+  copyStore(file, `${file}-${word}`, isOld);
+  return storeOf(`${file}-${word}`, at, document, isOld, clock);
 }
 
 /** Starts a program again that is closed.
  *  @param {Program} it */
-async function anew({ file, at, document, clock, provider }) {
+async function anew({ file, at, document, isOld, clock, provider }) {
   await provider.close();
-  return storeOf(file, at, document, clock);
+  return storeOf(file, at, document, isOld, clock);
 }
 
 /** Starts a program again behind a kill: what its store has then goes on alone.
@@ -94,9 +115,10 @@ async function check(all, texts, words) {
  *  @param {string} file
  *  @param {string} at
  *  @param {string} [document]
+ *  @param {boolean} [isOld]
  *  @param {import("../clock.mjs").Clock} [clock] */
-async function begun(file, at, document, clock) {
-  const it = await storeOf(file, at, document, clock);
+async function begun(file, at, document, isOld, clock) {
+  const it = await storeOf(file, at, document, isOld, clock);
   it.provider.replica.assign([0, "list"], []);
   edit(it, "base");
   await online([it]);
@@ -104,7 +126,7 @@ async function begun(file, at, document, clock) {
   return it;
 }
 
-test("a store copied while it is edited: whoever is online first, each edit is there once", async () => {
+both("a store copied while it is edited: whoever is online first, each edit is there once", async (isOld) => {
   // Where the program was opened anew, the server has logged nothing of it since.
   const ways = ["original", "copy", "both"].flatMap((way) =>
     [[true, true], [true, false], [false, true], [false, false]].map(([isEdited, isAnew]) => ({ way, isEdited, isAnew })));
@@ -112,7 +134,7 @@ test("a store copied while it is edited: whoever is online first, each edit is t
   const { address } = await startServer(documents);
   for (const [at, { way, isEdited, isAnew }] of ways.entries()) {
     const folder = room();
-    let me = await begun(`${folder}/store`, address, documents[at]);
+    let me = await begun(`${folder}/store`, address, documents[at], isOld);
     if (isAnew) me = await anew(me);
     edit(me, "before 1");
     edit(me, "before 2");
@@ -128,7 +150,7 @@ test("a store copied while it is edited: whoever is online first, each edit is t
     await online([me, copy]);
     await check([me, copy], texts, documents[at]);
   }
-});
+}, "a store copied while it is edited: whoever is online first, each edit is there once, of an older package");
 
 test("a store that is read alone goes on under its name, also behind a kill", async () => {
   const { address } = await startServer(["d"]);
@@ -139,18 +161,19 @@ test("a store that is read alone goes on under its name, also behind a kill", as
   equal(again.provider.replica.name, name);
 });
 
-test("random copies of running stores, all online in any order: each edit is there once", async () => {
-  const rounds = Number(process.env.ROUNDS ?? 12);
+both("random copies of running stores, all online in any order: each edit is there once", async (isOld) => {
+  const rounds = Number(process.env.ROUNDS ?? (isOld && !process.env.JCRDT_SLOW ? 4 : 12));
   const first = Number(process.env.SEED ?? 1);
-  for (let seed = first; seed < first + rounds; seed++) await round(seed);
+  for (let seed = first; seed < first + rounds; seed++) await round(seed, isOld);
 });
 
-/** @param {number} seed */
-async function round(seed) {
+/** @param {number} seed
+ *  @param {boolean} isOld */
+async function round(seed, isOld) {
   const { below, chance, pick } = dice(seed);
   const { address, child } = await startServer(["d"]);
   const folder = room();
-  const all = [await begun(`${folder}/0`, address)];
+  const all = [await begun(`${folder}/0`, address, "d", isOld)];
   const [texts, titles] = [["base"], []];
   const copy = async (it) => {
     if (all.length < 6) all.push(await copied(it, String(all.length)));
@@ -188,34 +211,34 @@ async function round(seed) {
   child.kill();
 }
 
-test("votes alike in the original and in copies, made while it was open, closed, or one each: each counts", async () => {
+both("votes alike in the original and in copies, made while it was open, closed, or one each: each counts", async (isOld) => {
   const ways = ["open", "closed", "one each"].flatMap((how) => [0, 1, 2].map((first) => ({ how, first })));
   const documents = ways.map((_, at) => `d${at}`);
   const { address } = await startServer(documents);
   await Promise.all(ways.map(async ({ how, first }, at) => {
-    let me = await begun(`${room()}/store`, address, documents[at], clock);
+    let me = await begun(`${room()}/store`, address, documents[at], isOld, clock);
     vote(me, 2);
     const copies = { open: [], closed: ["one", "two"], "one each": ["one"] }[how];
     if (copies.length > 0) await me.provider.close();
-    for (const word of copies) copyFileSync(me.file, `${me.file}-${word}`);
-    if (copies.length > 0) me = await storeOf(me.file, address, documents[at], clock);
+    for (const word of copies) copyStore(me.file, `${me.file}-${word}`, isOld);
+    if (copies.length > 0) me = await storeOf(me.file, address, documents[at], isOld, clock);
     vote(me, 1);
     const others = ["one", "two"].map((word) => (copies.includes(word)
-      ? storeOf(`${me.file}-${word}`, address, documents[at], clock) : copied(me, word)));
+      ? storeOf(`${me.file}-${word}`, address, documents[at], isOld, clock) : copied(me, word)));
     const all = [me, ...await Promise.all(others)];
     for (const it of all) vote(it, 3);
     await online([all[first]]);
     await settled(all);
     for (const it of all) equal(it.provider.replica.sum([0, "votes"]), 1 + 2 + 1 + 3 * 3, `${how} ${first}`);
   }));
-});
+}, "votes alike in the original and in copies, made while it was open, closed, or one each: each counts, of an older package");
 
-test("a copy of what the server has says where it begins, too: votes alike count", async () => {
+both("a copy of what the server has says where it begins, too: votes alike count", async (isOld) => {
   const ways = [true, false].flatMap((isSynced) => ["original", "copy", "both"].map((first) => ({ isSynced, first })));
   const documents = ways.map((_, at) => `d${at}`);
   const { address } = await startServer(documents);
   await Promise.all(ways.map(async ({ isSynced, first }, at) => {
-    const me = await begun(`${room()}/store`, address, documents[at], clock);
+    const me = await begun(`${room()}/store`, address, documents[at], isOld, clock);
     const copy = await copied(me, "copy");
     if (isSynced) await online([copy]);
     copy.provider.goOffline();
@@ -226,12 +249,12 @@ test("a copy of what the server has says where it begins, too: votes alike count
   }));
 });
 
-test("a card that was begun when the copy was made is one", async () => {
+both("a card that was begun when the copy was made is one", async (isOld) => {
   const ways = ["original", "copy", "both"].flatMap((first) => [true, false].map((isAnew) => ({ first, isAnew })));
   const documents = ways.map((_, at) => `d${at}`);
   const { address } = await startServer(documents);
   for (const [at, { first, isAnew }] of ways.entries()) {
-    let me = await begun(`${room()}/store`, address, documents[at]);
+    let me = await begun(`${room()}/store`, address, documents[at], isOld);
     me.provider.replica.insert([0, "list", 0], {});
     let copy = await copied(me, "copy");
     me.provider.replica.assign([0, "list", 1, "title"], "original's");
@@ -245,15 +268,15 @@ test("a card that was begun when the copy was made is one", async () => {
   }
 });
 
-test("cards that were begun alike behind a closed store are two", async () => {
+both("cards that were begun alike behind a closed store are two", async (isOld) => {
   const { address } = await startServer(["closed", "killed"]);
   await Promise.all(["closed", "killed"].map(async (how) => {
-    const me = await begun(`${room()}/store`, address, how, clock);
+    const me = await begun(`${room()}/store`, address, how, isOld, clock);
     await me.provider.close();
-    copyFileSync(me.file, `${me.file}-copy`);
+    copyStore(me.file, `${me.file}-copy`, isOld);
     const all = [];
     for (const [at, file] of [me.file, `${me.file}-copy`].entries()) {
-      const it = await storeOf(file, address, how, clock);
+      const it = await storeOf(file, address, how, isOld, clock);
       it.provider.replica.insert([0, "list", 0], {});
       it.provider.replica.assign([0, "list", 1, "title"], `card ${at}`);
       all.push(await (how === "closed" ? anew : killed)(it));
@@ -317,7 +340,7 @@ class Gate {
 
 const EDITS = 80; // of two operations: more than two pages
 
-test("a store copied while its program sends what it has, in pages: each edit is there once", async () => {
+both("a store copied while its program sends what it has, in pages: each edit is there once", async (isOld) => {
   const ways = [1, 40, 65, 130].flatMap((count) => ["copy", "original", "both", "killed"].map((how) => ({ count, how })));
   const documents = ways.map((_, at) => `d${at}`);
   const { address } = await startServer(documents);
@@ -325,7 +348,7 @@ test("a store copied while its program sends what it has, in pages: each edit is
     const file = `${room()}/store`;
     await (await begun(file, address, documents[at])).provider.close();
     const gate = new Gate(address, count);
-    let me = await storeOf(file, await gate.listen(), documents[at]);
+    let me = await storeOf(file, await gate.listen(), documents[at], isOld);
     const texts = ["base", ...Array.from({ length: EDITS }, (_, number) => `before ${number}`)];
     for (const text of texts.slice(1)) edit(me, text);
     me.provider.goOnline();
@@ -344,26 +367,78 @@ test("a store copied while its program sends what it has, in pages: each edit is
   }
 });
 
-for (const isKnown of [true, false]) {
-  const before = isKnown ? "has sent something before" : "has a new name";
+const BEFORE = { known: "has sent something before", new: "has a new name", anew: "was opened anew" };
+
+for (const [how, before] of Object.entries(BEFORE)) {
   test(`a copy is killed while it sends, the program ${before}: what came of it is its own`, async () => {
     const documents = Array.from({ length: 9 }, (_, count) => `d${count}`);
     const { address } = await startServer(documents);
     for (const [count, document] of documents.entries()) {
       const file = `${room()}/store`;
-      const me = await (isKnown ? begun(file, address, document) : storeOf(file, address, document));
-      if (!isKnown) me.provider.replica.assign([0, "list"], []);
-      for (const text of isKnown ? ["one", "two"] : ["base", "one", "two"]) edit(me, text);
+      let me = await (how === "new" ? storeOf(file, address, document) : begun(file, address, document));
+      if (how === "new") me.provider.replica.assign([0, "list"], []);
+      for (const text of how === "new" ? ["base", "one", "two"] : ["one", "two"]) edit(me, text);
+      if (how === "anew") me = await anew(me);
+      const { name } = me.provider.replica;
       const gate = new Gate(address, count);
       const copy = await copied({ ...me, at: await gate.listen() }, "copy");
       edit(copy, "copy");
       edit(me, "original");
       copy.provider.goOnline();
-      await gate.isHolding;
+      await Promise.race([gate.isHolding, copy.provider.synced(WAIT)]);
       const again = await killed({ ...copy, at: address });
       gate.close();
       await online([me]);
       await check([me, again], ["base", "one", "two", "copy", "original"], `behind ${count}`);
+      equal(me.provider.replica.name, name, `behind ${count}`);
     }
   });
 }
+
+test("votes alike of two closed copies count, also where each was opened again before it was online", async () => {
+  const ways = [0, 1, 2].flatMap((first) => [true, false].map((isSent) => ({ first, isSent })));
+  const documents = ways.map((_, at) => `d${at}`);
+  const { address } = await startServer(documents);
+  await Promise.all(ways.map(async ({ first, isSent }, at) => {
+    const me = await begun(`${room()}/store`, address, documents[at], false, clock);
+    if (!isSent) vote(me, 1);
+    await me.provider.close();
+    for (const word of ["one", "two"]) copyStore(me.file, `${me.file}-${word}`, false);
+    const all = [];
+    for (const file of [me.file, `${me.file}-one`, `${me.file}-two`]) {
+      const it = await storeOf(file, address, documents[at], false, clock);
+      vote(it, 2);
+      all.push(await anew(it));
+    }
+    await online([all[first]]);
+    await settled(all);
+    const names = all.map(({ provider: { replica: { name } } }) => name);
+    equal(new Set(names).size, 3);
+    for (const it of all) equal(it.provider.replica.sum([0, "votes"]), 1 + (isSent ? 0 : 1) + 3 * 2, `${first} ${isSent}`);
+  }));
+});
+
+test("what is edited while edits are made again, and copied then, is there once", async () => {
+  const documents = Array.from({ length: 6 }, (_, count) => `d${count}`);
+  const { address } = await startServer(documents);
+  for (const [count, document] of documents.entries()) {
+    const first = await begun(`${room()}/store`, address, document, true);
+    await first.provider.close();
+    copyStore(first.file, `${first.file}-copy`, true);
+    const me = await anew(first);
+    edit(me, "me");
+    await online([me]);
+    // The other one has the same name, and is to make its edits again: it is held in the midst of that.
+    const gate = new Gate(address, 3 + count);
+    const copy = await storeOf(`${first.file}-copy`, await gate.listen(), document, false);
+    edit(copy, "before");
+    copy.provider.goOnline();
+    await Promise.race([gate.isHolding, copy.provider.synced(WAIT)]);
+    edit(copy, "meanwhile");
+    const further = await copied({ ...copy, at: address }, "further");
+    gate.open();
+    await online([copy]);
+    await check([me, copy, further], ["base", "me", "before", "meanwhile"], `behind ${count}`);
+    gate.close();
+  }
+});

@@ -1,6 +1,7 @@
 /* Sessions: values to and fro, refusals, others that change the same lists, lost connections. */
 
 import { deepEqual, equal, ok, rejects } from "node:assert/strict";
+import { createHash } from "node:crypto";
 import net from "node:net";
 import { after, test } from "node:test";
 import {
@@ -62,6 +63,26 @@ test("values to and fro", LIMIT, async () => {
   await client.put("d", [0, "keys"], JSON.parse('{"__proto__":1}'));
   deepEqual(Object.keys(await client.plain("d", [0, "keys"])), ["__proto__"]);
   deepEqual(await client.unsaved("d", [...ids, [9999, "srv-1"]]), [[9999, "srv-1"]]);
+  await client.quit();
+});
+
+test("chains", LIMIT, async () => {
+  const client = await join();
+  for (const value of [1, 2]) await client.assign("d", [0, "chained"], value);
+  const front = await client.front("d");
+  /** @type {Map<string, string[]>} */
+  const lines = new Map([...front.keys()].map((name) => [name, []]));
+  for await (const operation of client.operations("d")) {
+    lines.get(operation[1][1])?.push(`${print(operation)}\n`);
+  }
+  /** @param {string[]} [some] */
+  const digest = (some = []) => createHash("sha256").update(some.join("")).digest("hex");
+  deepEqual(await client.chains("d", new Map(), front),
+    [...front].map(([name, counter]) => [name, counter, digest(lines.get(name))]));
+  const last = front.get("srv-1") ?? 0;
+  deepEqual(await client.chains("d", new Map([["srv-1", last - 1]]), new Map([["srv-1", last]])),
+    [["srv-1", last, digest(lines.get("srv-1")?.slice(-1))]]);
+  deepEqual(await client.chains("d", front, new Map([["nobody", 1]])), [["nobody", 1, digest()]]);
   await client.quit();
 });
 

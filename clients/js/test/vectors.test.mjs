@@ -17,8 +17,9 @@ const FOLDER = new URL("../../vectors/", import.meta.url);
 const vectors = readdirSync(FOLDER).filter((name) => name.endsWith(".json"))
   .map((name) => JSON.parse(readFileSync(new URL(name, FOLDER), "utf8")));
 
-/** What only sessions have: an end by a line too long, and documents that aren't open. */
-const OF_SESSIONS = /^(longest_line-(ends|too_long)|request_refusals-no_open)$/;
+/** What only sessions have: an end by a line too long, and documents that aren't open. Chains of replicas
+ *  are in tests/agreement. */
+const OF_SESSIONS = /^(chains|longest_line-(ends|too_long)|request_refusals-no_open)$/;
 
 test("the vectors are those of the rows", () => {
   const { stdout, status } = spawnSync("python3", [fileURLToPath(new URL("make", FOLDER)), "--check"]);

@@ -1,4 +1,6 @@
 export function copyPlace(name: string, counter: number, session: string, origin: string): import("./operations.mjs").Cursor;
+export function sayings(name: string, places: import("./operations.mjs").Cursor[]): import("./operations.mjs").Operation[];
+export function isSaying([, , , [path, key], [word]]: import("./operations.mjs").Operation): boolean;
 /** A server's operations of a replica's name beside the replica's own ones. */
 export class Comparison {
     /** @param {Core} core
@@ -8,7 +10,12 @@ export class Comparison {
     same: number;
     /** Up to this counter a copy says that it has them. */
     copied: number;
-    /** Takes the server's next operation. Others' are nothing to it.
+    /** Up to this counter the server has any of this name. */
+    last: number;
+    /** Hears what an operation says, whoever made it.
+     *  @param {any} op */
+    hear(op: any): void;
+    /** Takes the server's next operation.
      *  @param {any} op */
     take(op: any): void;
     #private;
@@ -17,7 +24,15 @@ export type Core = import("./exchange.mjs").Core;
 export type Cursor = import("./operations.mjs").Cursor;
 export type Operation = import("./operations.mjs").Operation;
 /**
- * The word of the opening of the store in which an
- *   own operation was made; none where the store has none.
+ * Words of openings of a store, each from behind
+ *   a counter on.
  */
-export type SessionOf = (counter: number) => string;
+export type Sessions = {
+    after: number;
+    word: string;
+}[];
+/**
+ * The word of the opening of the store
+ *   in which an own operation was made, or one of a name before; none where the store has none.
+ */
+export type SessionOf = (counter: number, name?: string) => string;

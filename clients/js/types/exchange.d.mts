@@ -14,24 +14,28 @@ export class Exchange {
      *  @param {Iterable<[string, number]>} [front] */
     follow(answer: Answer, front?: Iterable<[string, number]> | undefined): void;
     /** Takes what a server that is followed has logged. Returns whether nothing differs in it now:
-     *  else the caller is to `sync`.
+     *  else the caller is to `sync`. Before a server was compared nothing is taken.
      *  @param {Answer} answer
      *  @param {Operation[]} operations Each has an id, at least. */
     logged(answer: Answer, operations: import("./operations.mjs").Operation[]): boolean;
+    /** Whether a name is this replica's, or was that of one of which its store is a copy.
+     *  @param {string} name */
+    isOwnName(name: string): boolean;
     /** Whether what was restored may be that of a program that goes on, and nobody was told. */
     get isDoubtful(): boolean;
     /** Says, where the store wasn't closed, which operations the program that had it may have, too. It
      *  is to come right behind them, and before any of them is sent. */
     say(): void;
-    /** What to go on with under a new name: `run` of it gives that at once, and `free` ends it. What
-     *  was restored from a store is made again the same by each copy of the store, and is at the
-     *  server by then.
+    /** Goes on under a new name: `goOn` is called with what to go on with. What copies of the store may
+     *  have is made again the same by each of them, and is at the server by then.
+     *  @template T
      *  @param {string} name
      *  @param {Answer} answer
      *  @param {Open} open
      *  @param {boolean} isRemade Whether own operations that the server lacks are made again.
-     *  @returns {Promise<Remaking>} */
-    remade(name: string, answer: Answer, open: Open, isRemade: boolean): Promise<Remaking>;
+     *  @param {(remaking: Remaking) => T} goOn
+     *  @returns {Promise<T>} */
+    remade<T>(name: string, answer: Answer, open: Open, isRemade: boolean, goOn: (remaking: Remaking) => T): Promise<T>;
     /** What a hub had of own operations at the end of a generation, beside others' of this name: from
      *  which counter on it had those, and what copies of the store had made again by then.
      *  @param {string} past
@@ -83,6 +87,12 @@ export type Report = {
      * Operations that were refused, here or there: at most 1,000.
      */
     refused: Refusal[];
+    /**
+     * The first operation that the server has
+     * another one of than this replica: nothing was exchanged then, and where only a refusal shows it,
+     * nothing more. One of another replica comes first.
+     */
+    differs?: import("./chains.mjs").Difference | undefined;
 };
 export type Remade = import("./remaking.mjs").Remade;
 /**
@@ -137,6 +147,18 @@ export type Core = {
      * Deletes what isn't there.
      */
     say: (place: import("./operations.mjs").Cursor) => void;
+    /**
+     * The last ones of the log.
+     */
+    last: (count: number) => import("./operations.mjs").Operation[];
+    /**
+     * Says so of names before this one, if it has said nothing.
+     */
+    sayFormers: () => void;
+    /**
+     * These names.
+     */
+    formers: () => ReadonlyMap<string, any>;
     sessionOf: import("./copies.mjs").SessionOf;
     /**
      * Is called with the operations that came, once more

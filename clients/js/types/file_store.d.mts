@@ -1,2 +1,3 @@
 export function fileStore(path: string): Store;
 export type Store = import("./stores.mjs").Store;
+export type Session = import("./stores.mjs").Session;

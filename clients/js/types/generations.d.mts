@@ -106,3 +106,13 @@ export type Own = {
     made: Map<string, import("./operations.mjs").Id>;
     sessionOf: import("./copies.mjs").SessionOf;
 };
+/**
+ * What a replica has read of generations that take no changes any more, on its way from one of them:
+ * each step by the names of both, and which of them have all that others stored. A document that is
+ * renewed meanwhile, or a connection that ends, doesn't have it begin anew.
+ */
+export type Way = {
+    from: string;
+    steps: Map<string, Step>;
+    withOthers: Set<Step>;
+};

@@ -14,6 +14,10 @@ export class LastingEngine implements Engine {
     /** Is to be called with each operation that was logged.
      *  @param {string} line */
     logged(line: string): void;
+    /** The last lines of the log, so many at most.
+     *  @param {number} count
+     *  @returns {string[]} */
+    last(count: number): string[];
     free(): void;
     #private;
 }

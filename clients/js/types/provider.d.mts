@@ -7,7 +7,8 @@
  * @typedef {object} State
  * @property {"online" | "connecting" | "offline" | "refused"} word "online": all that is stored
  *   here was given or is on its way, and all that the server has is here or on its way. "refused":
- *   the same, but for one's own changes that the server refuses: these stay here
+ *   the same, but for one's own changes that the server refuses: these stay here. Where `refused`
+ *   has `differs` nothing is exchanged
  * @property {Date} since when it began
  * @property {string} why why it is offline, or what is refused, in words; else ""
  * @property {RefusedChanges} [refused] of "refused"
@@ -16,6 +17,8 @@
  * @typedef {object} RefusedChanges
  * @property {number} count how many operations of this replica the server lacks
  * @property {Refused} cause why it refused the first of them
+ * @property {import("./chains.mjs").Difference} [differs] where the server has other operations than
+ *   are here: of which replica, and the counter of the first one. Nothing is sent or taken then
  */
 /**
  * How long a call waits.
@@ -107,6 +110,16 @@ export class Provider {
     discardRefused(wait?: {
         seconds?: number | undefined;
     } | undefined): Promise<string[]>;
+    /** Where the server has other operations of somebody than are here (`state.refused.differs`), as one
+     *  that was started over an older file: goes on with what the server has, and makes one's own changes
+     *  that it lacks again under a new name. Resolves the lines of those that couldn't be made, and of
+     *  others' that are here alone; none where nothing differs. Watches go on. Throws Away where there is
+     *  no exchange in time: then nothing is made.
+     *  @param {{ seconds?: number }} [wait] 10, unless it is said
+     *  @returns {Promise<string[]>} */
+    remakeRefused(wait?: {
+        seconds?: number | undefined;
+    } | undefined): Promise<string[]>;
     /** How many operations the exchange that goes on has got of the server, which show once they are
      *  taken; `undefined` where it gets none. An event "progress" says twice a second that it is
      *  another. */
@@ -151,7 +164,8 @@ export type State = {
     /**
      * "online": all that is stored
      * here was given or is on its way, and all that the server has is here or on its way. "refused":
-     * the same, but for one's own changes that the server refuses: these stay here
+     * the same, but for one's own changes that the server refuses: these stay here. Where `refused`
+     * has `differs` nothing is exchanged
      */
     word: "online" | "connecting" | "offline" | "refused";
     /**
@@ -176,6 +190,11 @@ export type RefusedChanges = {
      * why it refused the first of them
      */
     cause: Refused;
+    /**
+     * where the server has other operations than
+     * are here: of which replica, and the counter of the first one. Nothing is sent or taken then
+     */
+    differs?: import("./chains.mjs").Difference | undefined;
 };
 /**
  * How long a call waits.

@@ -16,7 +16,7 @@
  *  @property {number} sure Own insertions up to this counter are this replica's own.
  *  @property {(same: number) => boolean} isOurs Whether what the server has up to this counter, and is
  *    the same here, is this replica's own.
- *  @property {number} stored Copies of the store may have own operations up to this counter.
+ *  @property {() => number} stored Up to this counter copies of the store may have own operations.
  *  @property {Set<number>} strays Own operations that the server has logged behind another's.
  *  @property {boolean} isRemade Whether own operations that the server lacks are made again.
  *  @property {boolean} maySend Whether the server may take what is made again. */
@@ -34,8 +34,10 @@ export class Remaking {
     /** Takes what the server has, in log order.
      *  @param {any} op */
     begin(op: any): void;
-    /** Makes again what copies of the store may have, too, and has the server log it. Returns whether
-     *  it has; else the server has something that isn't known here.
+    /** Whether copies of the store may have own operations that weren't made again yet. */
+    get isBehind(): boolean;
+    /** Makes these again, and has the server log it. Returns whether it has; else the server has
+     *  something that isn't known here.
      *  @param {Ask} ask
      *  @returns {Promise<boolean>} */
     send(ask: Ask): Promise<boolean>;
@@ -89,9 +91,9 @@ export type How = {
      */
     isOurs: (same: number) => boolean;
     /**
-     * Copies of the store may have own operations up to this counter.
+     * Up to this counter copies of the store may have own operations.
      */
-    stored: number;
+    stored: () => number;
     /**
      * Own operations that the server has logged behind another's.
      */

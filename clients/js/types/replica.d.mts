@@ -49,11 +49,11 @@ export class Replica {
      *  @type {import("./clock.mjs").Clock} */
     clock: import("./clock.mjs").Clock;
     /** Words of the times in which own operations were made, each from behind a counter on.
-     *  @type {{ after: number, word: string }[]} */
-    sessions: {
-        after: number;
-        word: string;
-    }[];
+     *  @type {import("./copies.mjs").Sessions} */
+    sessions: import("./copies.mjs").Sessions;
+    /** The same of names before this one, which go on in stores of which this one is a copy.
+     *  @type {Map<string, import("./copies.mjs").Sessions>} */
+    formers: Map<string, import("./copies.mjs").Sessions>;
     /** Called with what a listener has thrown. The others go on.
      *  @type {(error: any) => any} */
     failed: (error: any) => any;
@@ -157,6 +157,11 @@ export class Replica {
     sum(cursor: import("./operations.mjs").Cursor): number | bigint;
     /** @returns {[string, number][]} */
     front(): [string, number][];
+    /** By which two logs are compared, as `chains` of a session.
+     *  @param {ReadonlyMap<string, number>} after
+     *  @param {ReadonlyMap<string, number>} front
+     *  @returns {[string, number, string][]} */
+    chains(after: ReadonlyMap<string, number>, front: ReadonlyMap<string, number>): [string, number, string][];
     /** The held operations, each with what is missing.
      *  @returns {[Id, Id[]][]} */
     held(): [import("./operations.mjs").Id, import("./operations.mjs").Id[]][];
@@ -196,6 +201,11 @@ export class Replica {
      *  has { line, number, name, own } for each operation that was refused, here or there. If one
      *  of the own name was, by 14, 15 or 16, another replica has that name: see `remake`.
      *
+     *  Before that it compares what both have: all of it with a new `answer`, later what has come to
+     *  both. Where the server has another operation of one id, as one that was started over an older
+     *  file, nothing is exchanged, and `differs` has its { name, counter }: see `remake`. An `answer`
+     *  is of one connection, and behind a hub of one session of its server (`reopened`).
+     *
      *  One goes on at a time; a call with the same `answer` as one that waits is one with it. Throws
      *  what `answer` throws, and TypeError for a reply that no server gives.
      *  @param {Answer} answer
@@ -213,11 +223,15 @@ export class Replica {
      *  @param {Operation[]} operations In log order.
      *  @returns {boolean} */
     logged(answer: Answer, operations: import("./operations.mjs").Operation[]): boolean;
+    /** Whether a name is this replica's, or was that of one of which its store is a copy.
+     *  @param {string} name
+     *  @returns {boolean} */
+    isOwnName(name: string): boolean;
     /** Goes on under a new name, after the server refused an operation of one's own since another
-     *  has its id. Takes the server's log, the operations of others that it lacks, and those of
-     *  one's own that it lacks: under the new name, with what they knew. Own ones that were never
-     *  stored or sent from here aren't taken for the server's, however alike. Watches go on. Then
-     *  store all lines, and sync.
+     *  has its id, or where the server has others of somebody. Takes the server's log, the operations
+     *  of others that it lacks, and those of one's own that it lacks: under the new name, with what
+     *  they knew. Own ones that were never stored or sent from here aren't taken for the server's,
+     *  however alike. Watches go on. Then store all lines, and sync.
      *  @param {string} name
      *  @param {Answer} answer
      *  @returns {Promise<Remade>} */

@@ -146,6 +146,14 @@ export class Client {
      *  @param {string} document
      *  @param {ReadonlyMap<string, number>} [front] */
     operations(document: string, front?: ReadonlyMap<string, number> | undefined): AsyncGenerator<import("./operations.mjs").Operation, void, unknown>;
+    /** By which two logs are compared: for each pair of `front` the replica, the counter, and the SHA-256
+     *  in hex of the lines of the replica's operations with counters above that of `after`, or 0, and at
+     *  most that of `front`, in log order.
+     *  @param {string} document
+     *  @param {ReadonlyMap<string, number>} after
+     *  @param {ReadonlyMap<string, number>} front
+     *  @returns {Promise<[string, number, string][]>} */
+    chains: (document: string, after: ReadonlyMap<string, number>, front: ReadonlyMap<string, number>) => Promise<[string, number, string][]>;
     /** Which of these ids of one's own operations this server doesn't have. After connecting to a
      *  server that was started again: these are lost, and have to be made again.
      *  @param {string} document

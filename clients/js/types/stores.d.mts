@@ -10,8 +10,15 @@ export function memoryStore(): Store;
  * @property {boolean} [wasOpen] whether it wasn't closed: its program was killed, or goes on with what
  *   this is a copy of. Only of a store of which copies can be made
  * @property {boolean} [isNew] whether the name was made now
- * @property {{ before: number, word: string }[]} [sessions] how often it was opened and edited: how many
- *   lines were there before, and a random word. The last one is of this opening
+ * @property {Session[]} [sessions] how often it was opened and edited. The last one is of this opening
+ */
+/**
+ * An opening of a store.
+ * @typedef {object} Session
+ * @property {number} before how many lines were there before
+ * @property {string} word a random one
+ * @property {string} [former] the name that made own operations until then, and that goes on in the
+ *   store of which this one is a copy
  */
 /**
  * Where a provider keeps the operations of a replica. A method may return a promise or not.
@@ -71,13 +78,27 @@ export type Stored = {
      */
     isNew?: boolean | undefined;
     /**
-     * how often it was opened and edited: how many
-     * lines were there before, and a random word. The last one is of this opening
+     * how often it was opened and edited. The last one is of this opening
      */
-    sessions?: {
-        before: number;
-        word: string;
-    }[] | undefined;
+    sessions?: Session[] | undefined;
+};
+/**
+ * An opening of a store.
+ */
+export type Session = {
+    /**
+     * how many lines were there before
+     */
+    before: number;
+    /**
+     * a random one
+     */
+    word: string;
+    /**
+     * the name that made own operations until then, and that goes on in the
+     * store of which this one is a copy
+     */
+    former?: string | undefined;
 };
 /**
  * Where a provider keeps the operations of a replica. A method may return a promise or not.

@@ -14,11 +14,13 @@ export class Synchronizer {
     /** Whether the server lets this client edit; `undefined` before it was asked.
      *  @type {boolean | undefined} */
     mayWrite: boolean | undefined;
-    /** How many own operations the last exchange left here since the server refuses them, and why.
-     *  @type {{ count: number, cause: Refused } | undefined} */
+    /** How many own operations the last exchange left here since the server refuses them, and why. Where
+     *  that is a difference, nothing is exchanged.
+     *  @type {{ count: number, cause: Refused, differs?: Difference } | undefined} */
     refused: {
         count: number;
         cause: Refused;
+        differs?: Difference;
     } | undefined;
     /** How many operations the exchange under way has fetched, once it is some.
      *  @type {number | undefined} */
@@ -47,10 +49,17 @@ export class Synchronizer {
      *  @param {number} ms
      *  @returns {Promise<string[]>} */
     discard(ms: number): Promise<string[]>;
+    /** Goes on with what the server has, where that differs, and makes own operations that it lacks
+     *  again under a new name, at the next exchange. Resolves the lines of those that couldn't be made,
+     *  and of others' that the server has others of. Throws Away where there is none for so long.
+     *  @param {number} ms
+     *  @returns {Promise<string[]>} */
+    remake(ms: number): Promise<string[]>;
     #private;
 }
 export type Clock = import("./clock.mjs").Clock;
 export type Span = import("./clock.mjs").Span;
+export type Difference = import("./chains.mjs").Difference;
 export type Connection = import("./connection.mjs").Connection;
 export type Logged = import("./events.mjs").Event;
 export type Refusal = import("./exchange.mjs").Refusal;

@@ -21,11 +21,11 @@ from . import generations, loading, mending, nested, wire
 from .generations import Generation
 from .limits import SIGN_SECONDS, USUAL, Limits
 from .line_reader import CHUNK, LineReader, lines_of
-from .replies import Reply, checked_beginning, front_in, id_in, logged_in, page_in, reply_of
+from .replies import Reply, chains_in, checked_beginning, front_in, id_in, logged_in, page_in, reply_of
 from .session import FORKED
 from .steps import Steps
 from .tagged import tagged
-from .wire import Away, Cursor, Front, Id, Lost, Misbehaved, Operation, Refused, Renewed, Size, encoded
+from .wire import Away, Chain, Cursor, Front, Id, Lost, Misbehaved, Operation, Refused, Renewed, Size, encoded
 
 T = TypeVar("T")
 # After so many replies that are there already other tasks get their turn.
@@ -337,6 +337,10 @@ class Session:
                 yield operation
             if len(page) < wire.PAGE:
                 return
+
+    async def chains(self, document: str, after: Front, front: Front) -> List[Chain]:
+        """Digests of what the server has of some replicas, as `Session.chains`."""
+        return chains_in(await self.ask("chains", document, wire.pairs_of(after), wire.pairs_of(front)))
 
     async def held(self, document: str) -> List[Any]:
         """The operations that wait for others: `[id, [missing id, ..]]` each."""

@@ -48,13 +48,13 @@ class Desk:
         self._done("create", document)
 
     def rename(self, document: str, other: str) -> None:
-        """Gives a document another name. Clients that have it open lose their connection, also where the other name isn't free, and find
-        none of the old name."""
+        """Gives a document another name. Clients that have it open lose their connection, and find none of the old name. With
+        `--redis` it is refused."""
         self._done("rename", document, other)
 
     def delete(self, document: str) -> str:
         """Puts a document into the bin, and returns what it is called there, NAME.TIME. Clients that have it open lose their
-        connection."""
+        connection. With `--redis` only its home does, all hubs do then, and its name isn't used again."""
         [entry] = self._done("delete", document)
         return entry
 
@@ -67,7 +67,7 @@ class Desk:
         self._done("restore", entry, *([] if document is None else [document]))
 
     def renew(self, document: str) -> str:
-        """Puts what a document shows into its next generation now, and returns that. Requests of clients wait meanwhile."""
+        """Puts what a document shows into its next generation now, and returns that. Requests of clients wait for moments."""
         [generation] = self._done("renew", document)
         return generation
 

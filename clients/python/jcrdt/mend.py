@@ -1,6 +1,6 @@
 """Two servers had one NAME, or one had an older file under it: what one file has, made again at the other server.
 
-usage: mend FILE --name NEW --to ADDRESS [--doc DOC].. [--progress]
+usage: mend FILE --name NEW --to ADDRESS [--doc DOC].. [--leave REPLICA].. [--progress]
 
 FILE is the stored log of the side that goes: end its server first, and serve FILE no more. ADDRESS is HOST:PORT of the server that
 stays, with the same documents: all of FILE's where none is named.
@@ -9,8 +9,11 @@ An operation of FILE that the server has, too, stays as it is. One that it lacks
 there. Any other is made again, with what its maker knew, by a replica NEW-mend-1 (and NEW-mend-2 .. where several made them). So give
 a NEW that was never used. Each of these is listed. The same command again makes nothing twice: repeat it if it was interrupted.
 
-At last serve a new, empty file in FILE's place, under --name NEW, and let it exchange with the server that stays. A replica in a
-program that has what FILE alone had goes on under a new name (remake).
+At last serve a new, empty file in FILE's place, under --name NEW, and let it exchange with the server that stays.
+
+A replica in a program that had what FILE alone has can't exchange with the server that stays: its `sync` says so. What it had sent to the
+side that goes would be made again twice, here and by its own `remake` or `remakeRefused`. So name each such replica by --leave: what
+isn't the same at the server is left to it. Where its program is gone, or begins with a new store, leave it out here.
 
 Status 0: all of FILE is there. 1: something can't be made, and is listed; or an error. 2: a wrong command line.
 """
@@ -47,10 +50,11 @@ class Made(NamedTuple):
 
 class Mending:
     """What is to be delivered to a server, in this order. `same` of the file's operations are there, `as_it_is` are delivered
-    unchanged, `made` are made again, and `lost` can't be."""
+    unchanged, `made` are made again, `lost` can't be, and `left` are left to the program that made them."""
 
-    def __init__(self, name: str, ours: Sequence[Operation], theirs: Sequence[Operation], refused: Front) -> None:
-        """`ours` are the file's operations, `theirs` the server's. Of the replicas of `refused` it refused those from this counter on."""
+    def __init__(self, name: str, ours: Sequence[Operation], theirs: Sequence[Operation], refused: Front, leave: Sequence[str] = ()) -> None:
+        """`ours` are the file's operations, `theirs` the server's. Of the replicas of `refused` it refused those from this counter on.
+        Those of `leave` make again themselves what the server lacks."""
         self._there: Dict[Key, Operation] = {key_of(it[1]): it for it in theirs}
         # Of a replica: the last of its operations that both have, or could have, and that isn't the same.
         self._differing = differing(ours, theirs)
@@ -67,7 +71,8 @@ class Mending:
         self._ids: Dict[Key, Id] = {}
         # What the operations of the new log depend on.
         self._deps: Dict[Key, List[List[Any]]] = {key_of(it[1]): it[2] for it in theirs}
-        self.same = self.as_it_is = 0
+        self.same = self.as_it_is = self.left = 0
+        self._leave = frozenset(leave)
         self.made: List[Made] = []
         self.lost: List[Operation] = []
         self.operations: List[Operation] = []
@@ -89,6 +94,9 @@ class Mending:
                 self._brought.add((counter, replica))
             else:
                 self._good[replica] = counter
+        elif replica in self._leave:
+            self.left += 1
+            self._contested.add(replica)
         elif replica not in self._contested and found is None and self._fits(operation):
             self.as_it_is += 1
             self._deps[counter, replica] = operation[2]
@@ -194,13 +202,14 @@ def elements_of(operation: Operation) -> List[Key]:
     return [key_of(key) for key in [*(it for _, it in path), last] if isinstance(key, list)]
 
 
-def mend(server: Session, document: str, name: str, operations: Sequence[Operation], report: Report = silent) -> Mending:
-    """Makes again at a server what it lacks of these operations, or has differently. `report` is called with how many were
-    delivered."""
+def mend(server: Session, document: str, name: str, operations: Sequence[Operation], report: Report = silent,
+         leave: Sequence[str] = ()) -> Mending:
+    """Makes again at a server what it lacks of these operations, or has differently, but for those of some replicas. `report` is called
+    with how many were delivered."""
     refused: Front = {}
     while True:
         theirs = list(server.operations(document))
-        work = Mending(name, operations, theirs, refused)
+        work = Mending(name, operations, theirs, refused, leave)
         for it in operations:
             work.take(it)
         found = deliver(server, document, work.operations, report)
@@ -233,7 +242,8 @@ def deliver(server: Session, document: str, operations: Sequence[Operation], rep
     return found
 
 
-def mend_document(server: Session, document: str, name: str, operations: Sequence[Operation], report: Report) -> bool:
+def mend_document(server: Session, document: str, name: str, operations: Sequence[Operation], report: Report,
+                  leave: Sequence[str] = ()) -> bool:
     """Mends a document, and says what came of it. Returns whether all of the file is there."""
     try:
         server.open(document)
@@ -242,13 +252,14 @@ def mend_document(server: Session, document: str, name: str, operations: Sequenc
     used = {it[1][1] for it in operations} | {it for it in server.front(document) if not it.startswith(f"{name}-mend-")}
     if any(it.startswith(f"{name}-") for it in used):
         raise ValueError(f"{document}: {name} was used before: take a name that never was")
-    work = mend(server, document, name, operations, report)
+    work = mend(server, document, name, operations, report, leave)
     for old, new in work.made:
         say(f"{id_text(old[1]):<16} again as {id_text(new[1])}: {readable(new)}")
     for operation in work.lost:
         say(f"{id_text(operation[1]):<16} can't be made: {readable(operation)}")
+    left = f", {work.left} are left to their replicas" if leave else ""
     say(f"{document}: of {len(operations)} operations {work.same} are the same there, {work.as_it_is} were delivered, {len(work.made)} are "
-        f"there under a new name, {len(work.lost)} can't be made")
+        f"there under a new name, {len(work.lost)} can't be made{left}")
     return not work.lost
 
 
@@ -258,6 +269,7 @@ def main(words: Sequence[str]) -> int:
     parser.add_argument("--name", metavar="NEW", required=True)
     parser.add_argument("--to", metavar="ADDRESS", required=True, type=checked_address)
     parser.add_argument("--doc", metavar="DOC", action="append")
+    parser.add_argument("--leave", metavar="REPLICA", action="append", default=[])
     add_argument(parser)
     asked = parser.parse_args(words)
     if not NAME.match(asked.name):
@@ -271,7 +283,8 @@ def main(words: Sequence[str]) -> int:
     is_whole = True
     with connected(asked.to) as server:
         for document in asked.doc or sorted(rows):
-            is_whole = mend_document(server, document, asked.name, rows[document], progress_of("mend", asked.progress)) and is_whole
+            report = progress_of("mend", asked.progress)
+            is_whole = mend_document(server, document, asked.name, rows[document], report, asked.leave) and is_whole
         server.quit()
     say(f"serve a new, empty file in place of {asked.file} under --name {asked.name}, and exchange with {asked.to}")
     return 0 if is_whole else 1

@@ -30,6 +30,7 @@ REQUESTS: Dict[str, Form] = {
     "show": Form("look", ("doc", "CUR"), ("show",)),
     "deliver": Form("change", ("doc", "operation"), ("applied", "known", "held")),
     "ops": Form("state", ("doc", "FRONT", "limit"), ("ops",)),
+    "chains": Form("state", ("doc", "AFTER", "FRONT"), ("chains",)),
     "front": Form("state", ("doc",), ("front",)),
     "held": Form("state", ("doc",), ("waiting",)),
     "forget": Form("change", ("doc", "ID"), ("forgotten",)),

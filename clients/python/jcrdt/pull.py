@@ -88,6 +88,7 @@ async def _pull_page(link: Link, place: Listener) -> int:
     front, line = place.request()
     [reply] = await link.ask_lines([line])
     page = operations_of(reply, front)
+    await place.check(page)
     taken = Early(place.log, place.source).take(page)
     place.handed_out(taken, front)
     contested = place.contests(front, (it for it in page if place.log.missing(it)))
@@ -129,6 +130,7 @@ async def _pull_chains(link: Link, place: Listener, turn: Turn) -> None:
         if not chains:
             break
         came = await _pull_window(link, place, chains, window, turn)
+        await place.check(came)
         # Whatever an operation depends on has a lesser counter.
         place.handed_out(early.take(sorted(came, key=_id_of)), front)
         found = bool(came)

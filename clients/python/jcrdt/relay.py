@@ -14,8 +14,9 @@ import contextlib
 import os
 import signal
 import time
-from typing import Any, Awaitable, Callable, Dict, List, Optional, Sequence, Set, Tuple
+from typing import Any, Awaitable, Callable, Dict, Iterable, List, Optional, Sequence, Set, Tuple
 
+from .chains import AskSoon, Compared, LogsDiffer, Piece, can_ask, first_difference_soon, of_aio_session
 from .limits import SIGN_SECONDS
 from .link import Link, link_to
 from .notes import Notes
@@ -25,7 +26,7 @@ from .protocol import NAME_USED_TWICE
 from .pull import pull
 from .relay_health import pages
 from .troubles import Troubles
-from .wire import (Away, Front, Lost, Misbehaved, Refused, covers, decoded, decoded_reply, encoded, host_and_port,
+from .wire import (Away, Chain, Front, Lost, Misbehaved, Operation, Refused, covers, decoded, decoded_reply, encoded, host_and_port,
                    is_integer, pairs_of, refusal)
 
 # How much is delivered before the replies are awaited, in bytes.
@@ -93,6 +94,10 @@ class Place(Listener):
         self._judged: Set[int] = set()
         self._released, self._next_front = False, time.monotonic() + FRONT_EVERY
         self._busy = asyncio.Lock()
+        # Up to where it has what the log has, and where it has something else: then it is left out.
+        self._compared = Compared()
+        self._can_ask: Optional[bool] = None if link else False
+        self.difference: Optional[LogsDiffer] = None
 
     @property
     def link(self) -> Link:
@@ -107,7 +112,7 @@ class Place(Listener):
 
     def agrees(self) -> bool:
         """Whether it has all of the log, as far as fronts say."""
-        return self.has == self.log.front and not self.refused and not self.again
+        return self.has == self.log.front and not self.refused and not self.again and self.difference is None
 
     def lacks(self) -> int:
         """How many operations of the log it doesn't have."""
@@ -121,6 +126,62 @@ class Place(Listener):
             await self.pull()
             return await self.push()
 
+    async def compare(self, front: Front) -> None:
+        """Raises LogsDiffer where the server, which has all of a front, has other operations of it than the log has of another server.
+        What the log has of who can't be asked is contested: each server judges it."""
+        link, log = of_aio_session(self.link, self.log.name), self.log
+        if self._can_ask is None:
+            self._can_ask = await can_ask(link)
+        while self._can_ask:
+            here = {replica: counter for replica, counter in log.front.items() if replica not in log.contested}
+            found = await first_difference_soon(_of_log(log), link, here, front, self._compared)
+            if found is None:
+                break
+            self._judge(*found)
+        for replica, counter in self._compared.same.items():
+            self._note_same(replica, counter)
+
+    def _judge(self, replica: str, counter: int) -> None:
+        """Raises LogsDiffer where another server has what the log has, and this one hasn't."""
+        if counter <= self.log.sure.get(replica, 0):
+            raise LogsDiffer(replica, counter)
+        self.log.contest(replica)
+
+    def _note_same(self, replica: str, counter: int) -> None:
+        """Notes that the server has what the log has of a replica, up to a counter."""
+        self._compared.note(replica, counter)
+        if self._can_ask and replica not in self.log.contested:
+            self.log.sure[replica] = max(counter, self.log.sure.get(replica, 0))
+
+    async def check(self, operations: Sequence[Operation]) -> None:
+        """Compares all that the server must have, as it has these operations, before they are added to the log."""
+        if not operations:
+            return
+        front = dict(self.has)
+        # The last one of a replica knows what those before it know.
+        for _, (counter, replica), known, *_ in {it[1][1]: it for it in operations}.values():
+            for name, last in [*known, (replica, counter)]:
+                front[name] = max(last, front.get(name, 0))
+        await self.compare(front)
+        for operation in operations if self._can_ask else ():
+            if self.log.conflicts(operation):
+                self._judge(operation[1][1], operation[1][0])
+
+    async def begin_anew(self) -> None:
+        """Looks again at all that the server has."""
+        self._forget(await self.link.front(self.log.name))
+
+    def _forget(self, front: Front) -> None:
+        self.has, self._at = front, 0
+        self._compared = Compared()
+        self.own.clear()
+        self._judged.clear()
+
+    def handed_out(self, places: Iterable[int], front: Front) -> None:
+        super().handed_out(places, front)
+        for counter, replica, _ in map(self.log.operations.__getitem__, places):
+            self._note_same(replica, counter)
+
     async def pull(self) -> None:
         """Adds to the log what the server has beyond it."""
         await pull(self.link, self)
@@ -130,12 +191,11 @@ class Place(Listener):
         self._next_front = time.monotonic() + FRONT_EVERY
         front = await self.link.front(self.log.name)
         if any(counter > front.get(replica, 0) for replica, counter in self.has.items()):
-            self.has, self._at = front, 0
-            self.own.clear()
-            self._judged.clear()
+            self._forget(front)
 
     async def push(self) -> int:
         """Delivers what the server lacks. Returns how many operations it logged."""
+        await self.compare(self.has)
         logged = 0
         while True:
             chunk = self._next_chunk()
@@ -197,6 +257,7 @@ class Place(Listener):
         if reply[0] in ("applied", "known"):
             self._judged.add(at)
             self.has[operation.replica] = max(operation.counter, self.has.get(operation.replica, 0))
+            self._note_same(operation.replica, operation.counter)
             if operation_id in self._stopped:
                 self._stopped.discard(operation_id)
                 self._released = True
@@ -211,6 +272,9 @@ class Place(Listener):
         if cause.number in PASSING:
             return True
         self._judged.add(at)
+        if cause.number in NAME_USED_TWICE and self._can_ask and operation.replica not in self.log.contested:
+            # It had others before it was compared, or it is over an older file and has none yet.
+            self._judge(operation.replica, operation.counter)
         self._tell_refusal(operation_id, cause)
         count, first, found = self.refused.get(cause.number, (0, operation_id, cause))
         self.refused[cause.number] = (count + 1, first, found)
@@ -248,6 +312,14 @@ class Place(Listener):
         self.again = False
         self.has.update(await self.link.front(self.log.name))
         self._at = 0
+
+
+def _of_log(log: Log) -> AskSoon:
+    """A relay's log, as a side that is compared."""
+    async def ask(pieces: List[Piece]) -> List[List[Chain]]:
+        return [log.chains(*piece) for piece in pieces]
+
+    return ask
 
 
 def _delivery_reply(line: bytes) -> List[Any]:
@@ -400,7 +472,12 @@ class Server(Member):
         pause = self.relay.every
         while True:
             place.news.clear()
-            logged = await place.round()
+            try:
+                logged = await place.round()
+            except LogsDiffer as error:
+                await self._leave_out(place, error)
+                continue
+            self._take_in(place)
             self.is_connected()
             place.tell_if_agreed()
             if place.again:
@@ -410,6 +487,20 @@ class Server(Member):
             elif not place.news.is_set():
                 with contextlib.suppress(asyncio.TimeoutError):
                     await asyncio.wait_for(place.news.wait(), self.relay.every)
+
+
+    async def _leave_out(self, place: Place, error: LogsDiffer) -> None:
+        """Says that the server has other operations than the log, and waits before it is looked at again."""
+        place.difference, name = error, place.log.name
+        self.is_connected()
+        self.troubles.begin(f"{name}: differs", error.replica, f"{self.address}: {name}: left out: from {error.counter} on it has other "
+                            f"operations of {error.replica} than the others: {ADVICE[15]}")
+        await self.relay.sleep(LEFT_OUT)
+        await place.begin_anew()
+
+    def _take_in(self, place: Place) -> None:
+        place.difference = None
+        self.troubles.end(f"{place.log.name}: differs", f"{self.address}: {place.log.name}: it has the operations of the others again")
 
 
 class Relay:
@@ -525,7 +616,9 @@ class Relay:
         gone = [member.address for member in self.members if member.address not in there]
         self.say(f"{log.name}: {len(log.operations)} operations, front {encoded(pairs_of(log.front)).decode()}")
         for place in places:
-            if place.lacks():
+            if place.difference is not None:
+                self.say(f"{log.name}: {place.server} is left out: it has other operations of {place.difference.replica}")
+            elif place.lacks():
                 self.say(f"{log.name}: {place.server} lacks {place.lacks()}")
         if gone:
             self.say(f"{log.name}: not reached: {', '.join(gone)}")

@@ -58,6 +58,8 @@ class Remaking:
         # Of a replica: the last of its operations that are the same here and there. Of the names under which something was made: the last.
         self._good: Front = {}
         self._made: Front = {}
+        # Of another replica: from which of its operations on the server has others.
+        self._barred: Front = {}
         # Of a replica: from which of its operations on they depend on more of the old name than is the same here and there: (from, needed).
         self._needs: Dict[str, List[Tuple[int, int]]] = {}
         self._seen: Front = {}
@@ -92,14 +94,20 @@ class Remaking:
         if replica == self._replica.name:
             self._take_own(operation)
             return
-        word = self._deliver(operation)
+        word = "barred" if self._is_barred(operation) and not self._is_there(operation) else self._deliver(operation)
         if word == "applied":
             self._due.append(operation)
-        if word in ("applied", "known"):
+        if word not in ("applied", "known"):
+            self.lost.append(operation)
+            self._barred.setdefault(replica, counter)
+        elif replica not in self._barred:
             self._good[replica] = counter
             self._note_need(operation)
-        else:
-            self.lost.append(operation)
+
+    def _is_barred(self, operation: Operation) -> bool:
+        """Whether it depends on an operation of another replica in whose place the server has another one. Who made it makes it again."""
+        (counter, replica), known = operation[1], operation[2]
+        return any(last >= self._barred.get(name, last + 1) for name, last in [*known, (replica, counter)])
 
     def _is_logged(self, client: Session, document: str) -> bool:
         """Whether the server has logged what is due. One at a time: where another copy has gone on in another way, nothing may go

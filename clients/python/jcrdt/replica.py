@@ -14,19 +14,22 @@ import platform
 import threading
 from ctypes import POINTER, Structure, byref, c_bool, c_char_p, c_size_t, c_uint64, c_void_p
 from typing import Any, Callable, Dict, Iterable, List, Optional, Sequence, Tuple
+from weakref import WeakKeyDictionary
 
 from . import wire
 from .again import Places
 from .carrying import carried
+from .chains import Compared
 from .copies import Clock, Own, is_change
 from .generations import generation_of
 from .later import Later
 from .protocol import NUMBERS
 from .remaking import ROUNDS, How, Remade, Remaking
+from .replies import chains_in
 from .session import Session
 from .store import Store, fresh_name
 from .syncing import Exchange
-from .wire import Cursor, Front, Id, Lost, Operation, Refused, Renewed, covers
+from .wire import Chain, Cursor, Front, Id, Lost, Operation, Refused, Renewed, covers
 
 # The first room for the text of an answer, in bytes.
 ROOM = 65_536
@@ -102,6 +105,8 @@ class Replica:
         # For tests: what waiting goes by.
         self.clock = Clock()
         self._syncing = threading.Lock()
+        # Of each session, by document: up to where its log and this one were the same.
+        self._compared: "WeakKeyDictionary[Session, Dict[str, Compared]]" = WeakKeyDictionary()
         self._open(name.encode(), "".join(f"{line}\n" for line in operations).encode())
         self._own = Own(0)
         self._listing, self._listed = threading.Lock(), self.front()
@@ -188,6 +193,8 @@ class Replica:
                 self._room = ctypes.create_string_buffer(length)
                 self._library.jcrdt_again(byref(self._handle), self._room, length)
             text = ctypes.string_at(self._room, length)
+            if len(self._room) > ROOM:
+                self._room = ctypes.create_string_buffer(ROOM)  # a large reading doesn't stay
         if not text:
             raise MemoryError("the request was answered, but there was no memory for the text of its answer")
         reply, made = text.split(b"\n")[:2]
@@ -343,6 +350,10 @@ class Replica:
             if len(page) < wire.PAGE:
                 return found
 
+    def chains(self, after: Front, front: Front) -> List[Chain]:
+        """Digests of what is logged of some replicas, as `Session.chains`."""
+        return chains_in(self.ask("chains", wire.pairs_of(after), wire.pairs_of(front)))
+
     def lines(self) -> List[str]:
         """The lines of all logged operations: what `operations` takes when the replica is opened again."""
         return [wire.encoded(operation).decode() for operation in self.operations()]
@@ -362,13 +373,15 @@ class Replica:
         A copy of the store that was made while it was open may have sent operations of this replica: it knows them for its own. Where
         such a copy may be about to send more, it waits, up to 5 s behind the last one.
 
-        Raises Differs where another store has used its name, as a copy of this one or an older one: nothing was exchanged then.
+        Raises Differs where the server has other operations of one id than this replica, its own or another's: nothing was exchanged
+        then. At a new session all is compared, later on what has come to both.
         Otherwise it goes on past what is refused, here or there, and raises that at last: Differs where two have one name, else
         Refused. Raises what `Session` raises, too; what was exchanged by then stays, and a later call goes on. That is Renewed where a
         hub has renewed the document: `renew` goes on there."""
         self.save_if_stored()
         with self._syncing:
-            work = Exchange(self, client, document, self._own)
+            logs = self._compared.setdefault(client, {}).setdefault(document, Compared())
+            work = Exchange(self, client, document, self._own, logs)
             try:
                 work.run()
             finally:
@@ -416,6 +429,7 @@ class Replica:
         self._library.jcrdt_close(byref(self._handle))
         self._handle, new._handle = new._handle, _Handle()
         self.name, self._made, self._listed = name, [], self.front()
+        self._compared.clear()
         sessions = self._store.sessions if self._store is not None else ()
         self._own = Own(0, self._store is not None, True, sessions)
 

@@ -3,7 +3,7 @@
 from typing import Any, List, Sequence, Union
 
 from .protocol import NUMBERS, REQUESTS
-from .wire import Front, Id, Lost, Misbehaved, Operation, Refused, checked_front, checked_operation, decoded_reply, refusal
+from .wire import Chain, Front, Id, Lost, Misbehaved, Operation, Refused, checked_front, checked_operation, decoded_reply, refusal
 
 # What stands behind the word of a reply, or the error that it is.
 Reply = Union[List[Any], Exception]
@@ -61,6 +61,15 @@ def front_in(rest: List[Any]) -> Front:
         return checked_front(pairs)
     except (ValueError, Refused):
         raise Misbehaved("a front that is none") from None
+
+
+def chains_in(rest: List[Any]) -> List[Chain]:
+    """The replicas, counters and digests of a reply to `chains`. Raises Misbehaved for what is none."""
+    try:
+        [chains] = rest
+        return [(str(name), int(counter), str(digest)) for name, counter, digest in chains]
+    except (TypeError, ValueError):
+        raise Misbehaved("chains that are none") from None
 
 
 def page_in(rest: List[Any], known: Front) -> List[Operation]:

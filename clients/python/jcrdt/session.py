@@ -25,11 +25,11 @@ from typing import Any, Deque, Iterable, Iterator, List, Literal, Optional, Sequ
 from . import generations, loading, mending, nested, wire
 from .generations import Generation
 from .limits import SIGN_SECONDS, USUAL, Limits
-from .replies import Reply, checked_beginning, front_in, id_in, logged_in, page_in, reply_of
+from .replies import Reply, chains_in, checked_beginning, front_in, id_in, logged_in, page_in, reply_of
 from .steps import Steps
 from .stream import Stream
 from .tagged import tagged
-from .wire import Away, Cursor, Front, Id, Lost, Misbehaved, Operation, Refused, Renewed, Size, encoded
+from .wire import Away, Chain, Cursor, Front, Id, Lost, Misbehaved, Operation, Refused, Renewed, Size, encoded
 
 T = TypeVar("T")
 FORKED = "it was opened in another process: connect in this one"
@@ -299,6 +299,12 @@ class Session:
             yield from page
             if len(page) < wire.PAGE:
                 return
+
+    def chains(self, document: str, after: Front, front: Front) -> List[Chain]:
+        """By which two logs are compared: for each pair of `front` the replica, the counter, and the SHA-256 in hex
+        of the lines of the replica's operations with counters above that of `after`, or 0, and at most that of
+        `front`, in log order."""
+        return chains_in(self.ask("chains", document, wire.pairs_of(after), wire.pairs_of(front)))
 
     def held(self, document: str) -> List[Any]:
         """The operations that wait for others: `[id, [missing id, ..]]` each."""

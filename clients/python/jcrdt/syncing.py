@@ -3,6 +3,8 @@
 from itertools import zip_longest
 from typing import TYPE_CHECKING, Iterator, List, NamedTuple, Optional, Tuple
 
+from .chains import Compared as ComparedLogs
+from .chains import LogsDiffer, first_difference, of_replica, of_session
 from .copies import Own
 from .protocol import NAME_USED_TWICE, NUMBERS
 from .session import Session
@@ -17,14 +19,15 @@ BATCH = 256
 FOR_ALL = frozenset(NUMBERS[name] for name in ("log-full", "no-memory"))
 
 
-class Differs(Exception):
+class Differs(LogsDiffer):
     """Replica and server have different operations of one id: another store or server has used this name, as a file that was copied,
-    or an older one that was put back. `replica` is the name, `counter` that of the first such id. If it is the replica's own, nothing
-    was exchanged: `Replica.remake` goes on under a new name. If it is another one's, all else was exchanged."""
+    or an older one that was put back. `replica` is the name, `counter` that of the first such id. Nothing was exchanged, and
+    `Replica.remake` goes on under a new name. A server of before, which isn't asked for `chains`, says of other names what it refuses:
+    then all else was exchanged."""
 
     def __init__(self, replica: str, counter: int, is_own: bool) -> None:
-        super().__init__(replica, counter, is_own)
-        self.replica, self.counter, self.is_own = replica, counter, is_own
+        super().__init__(replica, counter)
+        self.is_own = is_own
 
     def __str__(self) -> str:
         if self.is_own:
@@ -46,9 +49,10 @@ class Compared(NamedTuple):
 class Exchange:
     """One exchange. `came` and `went` are how many operations were logged, here and there."""
 
-    def __init__(self, replica: "Replica", client: Session, document: str, own: Own) -> None:
+    def __init__(self, replica: "Replica", client: Session, document: str, own: Own, logs: Optional[ComparedLogs] = None) -> None:
+        """`logs` is up to where the logs of this replica and of this session's document were the same before."""
         self.replica, self.client, self.document, self.name = replica, client, document, replica.name
-        self.own, self.place = own, (client.address, document)
+        self.own, self.place, self.logs = own, (client.address, document), logs or ComparedLogs()
         self.came = self.went = 0
         # Whether the server has logged an own operation in this exchange; and whether another program sends such ones meanwhile.
         self.is_logging = self.is_disturbed = False
@@ -61,6 +65,7 @@ class Exchange:
             self.is_disturbed, self.refused = False, []
             theirs = self.client.front(self.document)
             self.check_own(theirs)
+            self.check_all(theirs)
             if self.replica.is_doubtful and theirs.get(self.name, 0) < self.own.restored:
                 self.replica.say()
             self.take(theirs)
@@ -88,6 +93,15 @@ class Exchange:
                 raise Differs(self.name, of_another or last, True)
             theirs.clear()
             theirs.update(self.client.front(self.document))
+
+    def check_all(self, theirs: Front) -> None:
+        """Raises Differs where the server has other operations of some replica than are here."""
+        here, there = of_replica(self.replica), of_session(self.client, self.document)
+        front = self.replica.front()
+        self.logs.look(front, theirs)
+        found = first_difference(here, there, front, theirs, self.logs)
+        if found is not None:
+            raise Differs(found.replica, found.counter, found.replica == self.name)
 
     def compared(self, theirs: Front) -> Compared:
         """Compares the last own operation that was the same before, and all behind it."""
@@ -123,14 +137,20 @@ class Exchange:
 
     def take(self, theirs: Front) -> None:
         """Delivers here what the server has, but for what depends on a refused one."""
-        barred = Barred()
-        for operation in self.client.operations(self.document, self.replica.front()):
+        barred, front = Barred(), self.replica.front()
+        for operation in self.client.operations(self.document, front):
             counter, replica = operation[1]
+            if self.logs.lacks(operation, front):
+                # It came there since the front was read.
+                self.check_all({**theirs, **dict(operation[2])})
             if operation in barred:
                 continue
             try:
-                self.came += self.replica.deliver(operation)
+                logged = self.replica.deliver(operation)
+                self.came += logged
                 theirs[replica] = max(counter, theirs.get(replica, 0))
+                if logged:
+                    self.logs.note(replica, counter)
             except Refused as refusal:
                 self.note(operation, refusal)
                 barred.add(operation, True)
@@ -189,6 +209,8 @@ class Exchange:
             elif is_own:
                 is_over = self.note_own(operation[1][0], before, applied_count(reply) > 0) or is_over
             self.went += applied_count(reply)
+            if applied_count(reply):
+                self.logs.note(operation[1][1], operation[1][0])
         # What depends on a refused one would wait for ever.
         self.client.ask_all([["forget", self.document, it] for it in held])
         return not is_over

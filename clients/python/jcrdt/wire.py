@@ -16,6 +16,8 @@ Cursor = Sequence[Any]
 Operation = List[Any]
 # A version vector: the last counter of each replica.
 Front = Dict[str, int]
+# A replica, a counter of it, and a digest of its operations up to that one.
+Chain = Tuple[str, int, str]
 
 
 class Size(NamedTuple):
@@ -215,10 +217,18 @@ def checked_operation(value: Any) -> Operation:
              and _is_placed(cursor) and _is_mutation(mutation, cursor))
     if not right:
         raise Refused(12)
-    greatest = max((counter for _, counter in front), default=0)
-    if not _ascends(front) or operation_id[0] != greatest + 1:
+    if len(front) > 1 and not _ascends(front) or operation_id[0] != _greatest(front) + 1:
         raise Refused(13)
     return value
+
+
+def _greatest(front: Sequence[Sequence[Any]]) -> int:
+    """The greatest counter of a front."""
+    greatest = 0
+    for _, counter in front:
+        if counter > greatest:
+            greatest = counter
+    return greatest
 
 
 def _is_placed(cursor: Any) -> bool:

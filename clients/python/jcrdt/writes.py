@@ -1,6 +1,7 @@
 """Writes that survive a kill of the server."""
 
 import time
+import weakref
 from collections import deque
 from typing import Any, Deque, Dict, Iterable, List, Optional, Tuple
 
@@ -60,6 +61,8 @@ class Writes:
         self.unknown: Optional[Write] = None
         # The totals of own keys that this object added to.
         self._totals: Dict[Tuple[Any, ...], int] = {}
+        # The sessions that have answered all of it, or were found to have it.
+        self._known: "weakref.WeakSet[Session]" = weakref.WeakSet()
 
     def send(self, server: Session, word: str, cursor: Cursor, *value: Any) -> Id:
         """Sends what waits and then this request, and returns the id of its operation. Raises Refused if it is
@@ -133,6 +136,7 @@ class Writes:
         done = self._take_renewed(server)
         last = self._last()
         self._check_all_there(server, last)
+        self._check_each(server)
         if file is not None:
             self._await_file(server, file, last, seconds)
         else:
@@ -168,6 +172,13 @@ class Writes:
         if not wire.covers_all(front, last) or any(self._are_others(server, front, it) for it in last.items()):
             raise Lost(f"{self.document}: the server was started again and lacks writes: send them again")
 
+    def _check_each(self, server: Session) -> None:
+        """Compares all of the answered writes, once in a session that hasn't answered them: its server may have an older file, where the
+        last one alone is the same."""
+        if server not in self._known and self._lost(server):
+            raise Lost(f"{self.document}: the server was started again and has others in place of writes: send them again")
+        self._known.add(server)
+
     def _are_others(self, server: Session, front: Front, last: Tuple[str, int]) -> bool:
         """Whether the last write that a replica answered is another operation by now."""
         replica, counter = last
@@ -197,8 +208,16 @@ class Writes:
                 log.refresh()
 
     def _take_lost(self, server: Session) -> List[Write]:
-        """Those of the answered writes that the server lacks, or has something else by their ids. The others stay."""
+        """Takes out those of the answered writes that the server lacks, or has something else by their ids."""
         self._take_renewed(server)
+        lost = self._lost(server)
+        gone = set(lost)
+        self.answered = deque(it for it in self.answered if it not in gone)
+        self._known = weakref.WeakSet([server])
+        return lost
+
+    def _lost(self, server: Session) -> List[Write]:
+        """Those of the answered writes that the server lacks, or has something else by their ids."""
         front = server.front(self.document)
         before = dict(front)
         for write in self.answered:
@@ -206,11 +225,11 @@ class Writes:
             counter, replica = write.id
             before[replica] = min(counter - 1, before.get(replica, 0))
         there = {(it[1][0], it[1][1]): it for it in server.operations(self.document, before)} if self.answered else {}
-        writes, self.answered = self.answered, deque()
         lost: List[Write] = []
-        for write in writes:
+        for write in self.answered:
             found = there.get((write.id[0], write.id[1])) if write.id else None
-            (self.answered if found is not None and write.is_in(found) else lost).append(write)
+            if found is None or not write.is_in(found):
+                lost.append(write)
         return lost
 
     def _send_waiting(self, server: Session) -> List[Refused]:
@@ -241,6 +260,8 @@ class Writes:
         """Keeps an answered write. If another start of the server answered it, as may be behind a hub, what is
         left of the one before was in its file, and what isn't is sent again."""
         assert write.id is not None
+        if not self.answered:
+            self._known = weakref.WeakSet([server])
         if self.answered and (self.answered[-1].id or [0, ""])[1] != write.id[1]:
             lost = self._take_lost(server)
             self.answered.clear()

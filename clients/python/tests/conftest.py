@@ -1,10 +1,13 @@
 """What the tests share: the program, and a server that is ended with the test."""
 
+import contextlib
 import json
 import os
+import shutil
 import socket
 import subprocess
 import sys
+import threading
 import time
 from pathlib import Path
 from typing import IO, Any, Callable, Iterator, List, Optional, Sequence
@@ -23,6 +26,8 @@ import jcrdt  # noqa: E402
 SECONDS = 300
 # How a server takes back sessions from who is silent for a second while others wait.
 IMPATIENT = ("--clients", "2", "--patience", "1")
+# A server whose file has what it answered.
+DURABLE = ("--sessions", "64", "--durable")
 
 
 class Server:
@@ -75,6 +80,39 @@ class Server:
         self.start()
 
 
+class Older:
+    """A server of before, which isn't asked for chains: what is between a client and a server spoils that word."""
+
+    def __init__(self, server: Server) -> None:
+        self.server, self.listener = server, socket.create_server(("127.0.0.1", 0))
+        self.address = f"127.0.0.1:{self.listener.getsockname()[1]}"
+        threading.Thread(target=self._accept, daemon=True).start()
+
+    def _accept(self) -> None:
+        with contextlib.suppress(OSError):
+            while True:
+                connection, _ = self.listener.accept()
+                threading.Thread(target=self._serve, args=(connection,), daemon=True).start()
+
+    def _serve(self, connection: socket.socket) -> None:
+        host, port = self.server.address.rsplit(":", 1)
+        with contextlib.suppress(OSError), connection, socket.create_connection((host, int(port))) as behind:
+            threading.Thread(target=self._copy, args=(behind, connection), daemon=True).start()
+            with connection.makefile("rb") as lines:
+                for line in lines:
+                    behind.sendall(line.replace(b'["chains",', b'["unknown",', 1))
+
+    @staticmethod
+    def _copy(source: socket.socket, target: socket.socket) -> None:
+        with contextlib.suppress(OSError):
+            while True:
+                data = source.recv(65_536)
+                if not data:
+                    target.shutdown(socket.SHUT_RDWR)
+                    return
+                target.sendall(data)
+
+
 def is_free(address: str) -> bool:
     """Whether a server can listen there."""
     host, port = address.rsplit(":", 1)
@@ -98,6 +136,47 @@ def serve(tmp_path: Path) -> Iterator[Callable[..., Server]]:
     yield start
     for server in servers:
         server.kill()
+
+
+def edit(server: Server, **values: Any) -> None:
+    with jcrdt.connected(server.address) as it:
+        it.open("d")
+        for key, value in values.items():
+            it.assign("d", [0, key], value)
+
+
+def copied(server: Server, to: Path) -> None:
+    """Ends a server by a kill, and copies its file."""
+    server.kill()
+    to.mkdir(exist_ok=True)
+    for end in ("", "-wal"):
+        if os.path.exists(server.file + end):
+            shutil.copy(server.file + end, to / f"srv.db{end}")
+
+
+def put_back(server: Server, backup: Path) -> None:
+    server.kill()
+    for end in ("", "-wal", "-shm"):
+        if os.path.exists(server.file + end):
+            os.remove(server.file + end)
+        if (backup / f"srv.db{end}").exists():
+            shutil.copy(backup / f"srv.db{end}", server.file + end)
+    server.start()
+
+
+@pytest.fixture
+def twins(serve: Callable[..., Server], tmp_path: Path) -> Iterator[List[Server]]:
+    """Two servers over a file and its copy, under one name. Their second start made three operations each: the second one differs,
+    the others are the same, byte by byte."""
+    one = serve("d", name="srv", admission=DURABLE)
+    edit(one, title="Plan")
+    copied(one, tmp_path / "there")
+    one.start()
+    other = Server(tmp_path / "there", ["d"], "srv", admission=DURABLE)
+    for server, town in ((one, "Oslo"), (other, "Bergen")):
+        edit(server, day="Friday", town=town, count=3)
+    yield [one, other]
+    other.kill()
 
 
 def takes_silent_ones(address: str) -> None:

@@ -46,10 +46,12 @@ def test_what_is_read_is_what_was_put(serve: Serve) -> None:
             operations = [it async for it in session.operations("d")]
             assert len(operations) == sum((await session.front("d")).values()) == await session.account("d")
             assert await session.held("d") == [] and await session.version() == 2
+            chains = await session.chains("d", {}, await session.front("d"))
         # What the synchronous session reads is the same.
         with jcrdt.connected(server.address) as other:
             other.open("d")
             assert list(other.operations("d")) == operations
+            assert other.chains("d", {}, other.front("d")) == chains
 
     run(test)
 

@@ -11,7 +11,11 @@ from conftest import PROGRAM, Server, tool, wait_until
 
 import jcrdt
 from jcrdt import mend
+from jcrdt import replica as replica_module
+from jcrdt.replica import Replica
 from jcrdt.session import Session
+from jcrdt.store import Store, fresh_name
+from jcrdt.syncing import Differs
 from jcrdt.wire import Operation
 
 Serve = Callable[..., Server]
@@ -164,11 +168,11 @@ def test_an_older_file_under_its_old_name(tmp_path: Path, servers: List[Server])
     oslo.start()
     edit(oslo, ["insert", [0, "list", 1], "new 1"], ["assign", [0, "list", 2], "new 1 b"], ["add", [0, "n"], 10], ["insert", [0, "list", 0], "0"])
     assert "oslo-2" in jcrdt.front_on_disk(oslo.file, "d")
-    tool("exchange", oslo.address, peer.address, "d", status=1)
+    told = tool("exchange", oslo.address, peer.address, "d", status=1)
+    assert "handed over 0: from 4 on they have different operations of oslo-2\n" in told
     oslo.kill()
-    # The last one is at the peer by the exchange.
     told = tool("mend", oslo.file, "--name", "oslo-b", "--to", peer.address)
-    assert "4 are the same there, 0 were delivered, 3 are there under a new name, 0 can't be made" in told
+    assert "3 are the same there, 0 were delivered, 4 are there under a new name, 0 can't be made" in told
     fresh = started(folder(tmp_path, "c"), "oslo-b", servers)
     found = agree(peer, fresh)
     assert sorted(found["list"]) == ["0", "a", "lost 1", "lost 2", "new 1 b"] and found["n"] == jcrdt.Counter(11)
@@ -233,6 +237,35 @@ def test_what_an_exchange_has_mixed_is_there_once(tmp_path: Path, servers: List[
     assert "d: of 7 operations 2 are the same there, 0 were delivered, 5 are there under a new name, 0 can't be made" in told
     found = shown(stays)
     assert found["k"] == "b" and found["list"].count({"of": "b"}) == 2 and found["list"].count({"of": "b 2"}) == 1
+
+
+@pytest.mark.skipif(not any(map(os.path.isfile, replica_module.library_paths())), reason="libjcrdt.so isn't here")
+@pytest.mark.parametrize("is_new", [False, True])
+def test_a_replica_that_had_exchanged_with_the_side_that_goes(twins: List[Server], tmp_path: Path, is_new: bool) -> None:
+    """It notices, and goes on under a new name, or with a new store. What it had sent to the side that goes is there once."""
+    stays, goes = twins
+    path = str(tmp_path / "ada")
+    with Store(path, "d", "ada") as store, Replica.stored(store) as me:
+        with session(goes) as it:
+            me.sync(it, "d")
+            me.insert([0, "list", 0], "sent")
+            me.add([0, "votes"], 1)
+            me.sync(it, "d")
+        name = me.name
+    goes.kill()
+    told = tool("mend", goes.file, "--name", "bonn", "--to", stays.address, *([] if is_new else ["--leave", name]))
+    assert told.splitlines()[-2] == ("d: of 6 operations 3 are the same there, 0 were delivered, 3 are there under a new name, 0 can't be made" if is_new
+                                     else "d: of 6 operations 3 are the same there, 0 were delivered, 1 are there under a new name, 0 can't be made, "
+                                     "2 are left to their replicas")
+    with Store(f"{path}-new" if is_new else path, "d", "ada") as store, Replica.stored(store) as me, session(stays) as it:
+        if not is_new:
+            with pytest.raises(Differs, match="from 3 on the server has other operations of srv-2"):
+                me.sync(it, "d")
+            me.remake(fresh_name("ada"), it, "d")
+        me.sync(it, "d")
+        found = it.plain("d", [0])
+        assert me.plain([0]) == found
+        assert (found["list"], found["votes"], sorted(found["town"]["conflict"])) == (["sent"], jcrdt.Counter(1), ["Bergen", "Oslo"])
 
 
 def test_an_interrupted_mend_goes_on(tmp_path: Path, servers: List[Server], monkeypatch: pytest.MonkeyPatch) -> None:

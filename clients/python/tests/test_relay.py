@@ -16,7 +16,8 @@ from typing import Any, Callable, Dict, Iterator, List, Union
 
 import pytest
 
-from conftest import IMPATIENT, PACKAGE, SECONDS, TOP, Server, takes_silent_ones, wait_until as wait_for
+from conftest import (DURABLE, IMPATIENT, PACKAGE, SECONDS, TOP, Older, Server, copied, put_back, takes_silent_ones,
+                      wait_until as wait_for)
 
 from jcrdt import operation_log, pull, wire
 
@@ -30,7 +31,8 @@ PATIENT = f"from jcrdt import link, relay; link.LIMITS = link.LIMITS._replace(be
 PATIENT_END = f"relay.LAST_ROUNDS = relay.LAST_LOOK = {SECONDS}"
 GOOD: Dict[str, Answer] = {
     "open": b'["opened",1]', "front": b'["front",[]]', "ops": b'["ops",[]]', "deliver": b'["known"]',
-    "show": b'["show",[]]', "forget": b'["forgotten"]', "version": b'["version",2]', "quit": b'["bye"]'}
+    "show": b'["show",[]]', "forget": b'["forgotten"]', "version": b'["version",2]', "quit": b'["bye"]',
+    "chains": b'["no",2,"bad-request"]'}
 # Replies that no server gives: the word of the request, and the line.
 BAD_REPLIES = [
     ("ops", b'["ops",[5]]'), ("ops", b'["ops",5]'), ("ops", b'["ops"]'), ("ops", b'5'), ("ops", b'null'), ("ops", b'[]'),
@@ -337,6 +339,7 @@ class Forgery:
         self.page, self.made = page, {name: counter for _, (counter, name), *_ in page}
         self.served = threading.Event()
         self.peer = Peer({"front": json.dumps(["front", sorted(self.made.items())]).encode(), "ops": self._operations})
+        self.olders = [Older(it) for it in (self.bob, self.carol, self.alice)]
         early = relay(self.bob.address, self.peer.address)
         reaches(self.bob, self.made)
         early.end()
@@ -348,8 +351,8 @@ class Forgery:
         self.served.set()
 
     def relay(self, relay: Callable[..., Relay]) -> Relay:
-        """A relay of all, that has what is made up."""
-        kept = relay(self.peer.address, self.bob.address, self.carol.address, self.alice.address)
+        """A relay of all, that has what is made up. The servers aren't asked for chains: each judges what it gets."""
+        kept = relay(self.peer.address, *(it.address for it in self.olders))
         wait_for(self.served.is_set)
         return kept
 
@@ -383,11 +386,12 @@ def test_who_took_a_made_up_operation_is_named(serve: Serve, relay: Callable[...
     comes(carol, "real", last=19)
     write(carol, "of carol", 3)
     comes(alice, "of carol", last=2)
-    wait_for(lambda: f"{bob.address}: d: refused 4 of alice-1: 13 bad-front" in kept.errors())
+    older = made_up.olders[0].address
+    wait_for(lambda: f"{older}: d: refused 4 of alice-1: 13 bad-front" in kept.errors())
     assert asked(bob.address, ["front", "d"])[0][1] == [["alice-1", 3], ["mallory-1", 2]]
     assert "agree" not in kept.output()
     assert kept.end() == 1
-    assert f"d: {bob.address} lacks " in kept.output()
+    assert f"d: {older} lacks " in kept.output()
 
 
 def test_contested_while_a_page_is_under_way() -> None:
@@ -448,15 +452,15 @@ def test_equal_fronts_and_other_documents(serve: Serve, relay: Callable[..., Rel
 
 
 def test_a_refusal_is_no_agreement(serve: Serve, relay: Callable[..., Relay]) -> None:
-    """Two servers of one name have one front and refuse each other's operation."""
-    one, other = serve("d", name="same"), None
+    """Two servers of before, of one name, have one front and refuse each other's operation."""
+    one = serve("d", name="same")
     folder = Path(one.file).parent / "other"
     folder.mkdir()
     other = Server(folder, ["d"], "same")
     try:
         write(one, "a")
         write(other, "b")
-        kept = relay(one.address, other.address)
+        kept = relay(Older(one).address, Older(other).address)
         wait_for(lambda: kept.errors().count("15 id-conflict") == 2)
         # What others made goes both ways behind that.
         for server, peer, name in ((one, other, "ada"), (other, one, "bob")):
@@ -466,6 +470,81 @@ def test_a_refusal_is_no_agreement(serve: Serve, relay: Callable[..., Relay]) ->
         assert kept.end() == 1
     finally:
         other.kill()
+
+
+def state(server: Server) -> List[Any]:
+    return asked(server.address, ["front", "d"], ["show", "d", [0]], ["held", "d"])
+
+
+def test_a_server_that_differs_is_left_out(twins: List[Server], serve: Serve, relay: Callable[..., Relay]) -> None:
+    """A server over a copy of another's file, under its name. The others go on without it, and it with them once it has a new,
+    empty file and a name of its own."""
+    one, other = twins
+    carol = serve("d", name="carol")
+    other.kill()
+    kept = relay(one.address, other.address, carol.address)
+    comes(carol, "town", "Oslo")
+    other.start()
+    wait_for(lambda: f"{other.address}: d: left out: from 3 on it has other operations of srv-2 than the others" in kept.errors())
+    assert "keep one side (GUIDE" in kept.errors()
+    write(other, "of the other", 3)
+    before = state(other)
+    write(carol, "of carol")
+    comes(one, "of carol")
+    write(one, "of one")
+    comes(carol, "of one")
+    assert state(other) == before
+    assert asked(carol.address, ["values", "d", [0, "of the other"]]) == [["values", []]]
+    assert "agree" not in kept.output() and kept.errors().count("left out") == 1
+    other.kill()
+    other.name, other.file = "new", f"{other.file}.new"
+    other.start()
+    comes(other, "of one")
+    wait_for(lambda: "d: all 3 agree" in kept.output())
+    assert f"{other.address}: d: it has the operations of the others again" in kept.errors()
+    assert kept.end() == 0
+
+
+def test_servers_that_differ_from_the_start(twins: List[Server], relay: Callable[..., Relay]) -> None:
+    """With equal fronts, and the same last operation. One of them is left out, and nothing goes from one to the other."""
+    one, other = twins
+    before = state(one), state(other)
+    kept = relay(one.address, other.address)
+    wait_for(lambda: "d: left out: from 3 on it has other operations of srv-2 than the others" in kept.errors())
+    for server, name in ((one, "ada"), (other, "bob")):
+        asked(server.address, ["deliver", "d", ["op", [1, name], [], [[["m", 0]], name], ["assign", 1]]])
+    middle = state(one), state(other)
+    assert middle != before
+    time.sleep(2)
+    assert (state(one), state(other)) == middle
+    assert kept.errors().count("left out") == 1 and "agree" not in kept.output()
+    assert kept.end() == 1
+    assert "is left out: it has other operations of srv-2" in kept.output()
+
+
+@pytest.mark.parametrize("is_late", [False, True])
+def test_a_server_that_is_put_back_while_the_relay_runs(serve: Serve, relay: Callable[..., Relay], tmp_path: Path, is_late: bool) -> None:
+    """Its older file makes operations with ids that the others have, at once or once the relay is there: nothing of these gets there."""
+    one, carol = serve("d", name="srv", admission=DURABLE), serve("d", name="carol")
+    write(one, "title")
+    copied(one, tmp_path / "backup")
+    one.start()
+    kept = relay(one.address, carol.address)
+    write(one, "town", 200)
+    write(one, "count")
+    comes(carol, "count")
+    wait_for(lambda: "all 2 agree" in kept.output())
+    put_back(one, tmp_path / "backup")
+    if is_late:
+        wait_for(lambda: f"{one.address}: d: left out: from 2 on" in kept.errors())
+    write(one, "other", 200)
+    write(one, "count")
+    wait_for(lambda: f"{one.address}: d: left out: from 2 on it has other operations of srv-2" in kept.errors())
+    before = state(carol)
+    write(one, "more")
+    time.sleep(2)
+    assert state(carol) == before
+    assert kept.end() == 1
 
 
 def test_it_ends_within_seconds(serve: Serve, relay: Callable[..., Relay]) -> None:

@@ -1,15 +1,16 @@
 """What a relay says of its members, by clocks that are handed in; and who is accused of what."""
 
 import asyncio
+import json
 from typing import Any, Awaitable, Callable, Dict, List, Optional, Tuple, TypeVar
 
 import pytest
 
 from jcrdt import relay as relays
-from jcrdt.operation_log import Log, Source
+from jcrdt.operation_log import Log, Source, texts_of
 from jcrdt.pull import pull
 from jcrdt.troubles import HOUR, MOST, Troubles
-from jcrdt.wire import Misbehaved, Operation, covers, decoded, encoded, pairs_of
+from jcrdt.wire import Misbehaved, Operation, Refused, covers, decoded, encoded, pairs_of
 
 T = TypeVar("T")
 
@@ -33,6 +34,20 @@ class Clock:
     async def sleep(self, seconds: float) -> None:
         self.now += seconds
         await asyncio.sleep(0)
+
+
+# Texts.
+
+def test_operations_of_many_are_written_as_each_by_itself() -> None:
+    texts = ["", ',["op",', '"],["op",[1,"a"]', "\\", '\\",["op",', "\u00e9\u2028\U0001f600", "\n\0"]
+    plain: List[Operation] = [["op", [1, "a"], [], [[["m", 0]], text], ["assign", text]] for text in texts]
+    # A replica may have the name that each operation begins with.
+    named: List[Operation] = [["op", [5, "q"], [["a", 3], ["op", 4]], [[["m", 0]], "k"], ["delete"]],
+                              ["op", [6, "op"], [["op", 4], ["q", 5]], [[["l", 0]], [5, "q"]], ["insert", -1]]]
+    batches: List[List[Operation]] = [[], plain[:1], plain, named, plain + named, named[:1], [*named, *plain, *named]]
+    for batch in batches:
+        expected = [json.dumps(it, ensure_ascii=False, separators=(",", ":")).encode() for it in batch]
+        assert texts_of(batch) == expected
 
 
 # Troubles.
@@ -162,6 +177,10 @@ class Link:
 
     async def front(self, _: str) -> Dict[str, int]:
         return {it[1][1]: it[1][0] for it in self.log}
+
+    async def ask_all(self, requests: List[List[Any]]) -> List[Exception]:
+        """It is of before, and isn't asked for chains."""
+        return [Refused(2, "bad-request") for _ in requests]
 
     def answer(self, word: str, _: str, what: Any, limit: int = 0) -> List[Any]:
         if word == "forget":

@@ -1,5 +1,6 @@
 """The replica in this process, over libjcrdt.so: JCRDT_LIBRARY, or the release's. Skipped where the library is in neither place."""
 
+import hashlib
 import os
 import subprocess
 import sys
@@ -65,6 +66,22 @@ def test_two_replicas_show_the_same(ada: Replica) -> None:
         for operation in bob.operations(ada.front()):
             ada.deliver(operation)
         assert ada.plain() == bob.plain() == {"t": jcrdt.Conflict([2**63 - 1, "b"])}
+
+
+def test_chains_tell_whose_operations_differ(ada: Replica) -> None:
+    with Replica("ada-1") as other, Replica("bob-1") as bob:
+        for replica, value in ((ada, 1), (other, 2), (bob, 3)):
+            replica.assign([0, "k"], value)
+        for operation in bob.operations():
+            ada.deliver(operation)
+            other.deliver(operation)
+        front = ada.front()
+        assert front == other.front()
+        differing = [mine for mine, others in zip(ada.chains({}, front), other.chains({}, front)) if mine != others]
+        assert [(name, counter) for name, counter, _ in differing] == [("ada-1", 1)]
+        text = "".join(f"{line}\n" for line in ada.lines()[:1])
+        assert differing[0][2] == hashlib.sha256(text.encode()).hexdigest()
+        assert ada.chains(front, front) == other.chains(front, front)
 
 
 def test_what_is_stored_after_an_exchange_opens_again(ada: Replica) -> None:

@@ -2,6 +2,7 @@
 change the same lists meanwhile."""
 
 import contextlib
+import hashlib
 import os
 import signal
 import socket
@@ -60,6 +61,19 @@ def test_conflicts(alice: Session) -> None:
     assert alice.front("d") == front, "nothing was put"
     alice.put("d", [0, "again"], settled(conflict))
     assert kinds(alice.plain("d", [0, "again"])) == kinds(settled(conflict))
+
+
+def test_chains(alice: Session) -> None:
+    alice.put("d", [0], VALUE)
+    alice.deliver("d", BOB)
+    front, nothing = alice.front("d"), hashlib.sha256().hexdigest()
+    [own] = front.keys() - {"bob-1"}
+    lines = {name: [jcrdt.wire.encoded(it) + b"\n" for it in alice.operations("d") if it[1][1] == name] for name in front}
+    whole = [(name, counter, hashlib.sha256(b"".join(lines[name])).hexdigest()) for name, counter in sorted(front.items())]
+    assert alice.chains("d", {}, front) == whole and len(whole) == 2
+    last = alice.chains("d", {own: front[own] - 1}, {own: front[own]})
+    assert last == [(own, front[own], hashlib.sha256(lines[own][-1]).hexdigest())]
+    assert alice.chains("d", front, {own: 1, "nobody": 1}) == [(own, 1, nothing), ("nobody", 1, nothing)]
 
 
 @pytest.mark.parametrize("wrong", [1.5, 2**63, float("nan"), (1,), {1: "x"}, "x" * 4097, object(), {"k" * 129: 1}])

@@ -121,32 +121,40 @@ def test_a_server_that_lost_operations_gets_them_again(serve: Serve, tmp_path: P
 
 
 def test_a_foreign_refusal_does_not_stop_the_own_operations(serve: Serve, tmp_path: Path) -> None:
-    """Of bob the server has another first operation than the replica, and of itself none that the replica has."""
+    """The replica has an operation of the server itself that this one never made, and refuses. Both lack nothing else then, but for
+    what depends on it."""
+    server = serve("d", name="srv")
+    with session(server) as client, Store(str(tmp_path / "ada"), "d", "ada") as store, Replica.stored(store) as me:
+        client.open("d")
+        client.deliver("d", ["op", [1, "bob"], [], [[["m", 0]], "k"], ["assign", 1]])
+        add(me, "mine")
+        me.deliver(["op", [1, "srv-1"], [], [[["m", 0]], "s"], ["assign", 1]])
+        me.deliver(["op", [1, "carl"], [], [[["m", 0]], "c"], ["assign", 1]])
+        add(me, "mine, too")
+        for _ in range(2):
+            with pytest.raises(Differs, match="of srv-1 than are here: two have this name") as differs:
+                me.sync(client, "d")
+            assert not differs.value.is_own
+        # The second own one knows of srv-1's, which the server lacks: it stays here until that is mended.
+        assert client.front("d") == {"bob": 1, "carl": 1, me.name: 1}
+        assert me.front() == {"bob": 1, "carl": 1, "srv-1": 1, me.name: 2}
+        assert client.held("d") == []
+
+
+def test_a_replica_that_another_has_named_is_noticed_before_anything_is_sent(serve: Serve, tmp_path: Path) -> None:
+    """Of bob the server has another first operation than the replica, and the same second one."""
     server = serve("d", name="srv")
     with session(server) as client, Store(str(tmp_path / "ada"), "d", "ada") as store, Replica.stored(store) as me:
         client.open("d")
         client.deliver("d", ["op", [1, "bob"], [], [[["m", 0]], "k"], ["assign", 1]])
         client.deliver("d", ["op", [2, "bob"], [["bob", 1]], [[["m", 0]], "k"], ["assign", 2]])
-        me.deliver(["op", [1, "carl"], [], [[["m", 0]], "c"], ["assign", 1]])
-        me.deliver(["op", [1, "srv-1"], [], [[["m", 0]], "s"], ["assign", 1]])
-        me.deliver(["op", [1, "bob"], [], [[["m", 0]], "k"], ["assign", "other"]])
-        add(me, "mine")
-        for _ in range(2):
-            with pytest.raises(Differs, match="of srv-1 than are here: two have this name") as differs:
-                me.sync(client, "d")
-            assert not differs.value.is_own
-        front = client.front("d")
-        # The own one knows of srv-1's, which the server lacks: it stays here until that is mended.
-        assert (front.get("carl"), front.get(me.name)) == (1, None)
-    with session(server) as client, Store(str(tmp_path / "eve"), "d", "eve") as store, Replica.stored(store) as me:
-        client.open("d")
         me.deliver(["op", [1, "bob"], [], [[["m", 0]], "k"], ["assign", "other"]])
         me.deliver(["op", [2, "bob"], [["bob", 1]], [[["m", 0]], "k"], ["assign", 2]])
         me.deliver(["op", [3, "bob"], [["bob", 2]], [[["m", 0]], "k"], ["assign", 3]])
         add(me, "mine")
-        me.sync(client, "d")
-        assert client.front("d")[me.name] == 4
-        assert client.held("d") == []
+        with pytest.raises(Differs, match="^from 1 on the server has other operations of bob"):
+            me.sync(client, "d")
+        assert client.front("d") == {"bob": 2} and me.front() == {"bob": 3, me.name: 4}
 
 
 def test_a_full_document_refuses_and_what_was_made_stays(serve: Serve, tmp_path: Path) -> None:

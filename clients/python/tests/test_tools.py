@@ -16,7 +16,7 @@ from pathlib import Path
 from typing import Callable, Iterator, List
 
 import pytest
-from conftest import PACKAGE, PROGRAM, SECONDS, Server, tool, wait_until
+from conftest import PACKAGE, PROGRAM, SECONDS, Older, Server, tool, wait_until
 from test_session import answering
 
 import jcrdt
@@ -119,22 +119,27 @@ def test_servers_meet(serve: Serve) -> None:
 
 
 def test_servers_of_one_name(serve: Serve, tmp_path: Path) -> None:
-    """What they made apart has the same ids: the fronts agree, the documents don't."""
+    """What they made apart has the same ids: nothing is handed over. Of servers of before the fronts agree, and the documents don't."""
     one = serve("d", name="srv")
     (tmp_path / "there").mkdir()
     other = Server(tmp_path / "there", ["d"], name="srv")
+    advice = "two starts of a server had one name: keep one side (GUIDE, \"When two starts had one name\")\n"
     try:
         for server, title in ((one, "mine"), (other, "yours")):
             with jcrdt.connected(server.address) as session:
                 session.open("d")
                 session.assign("d", [0, "title"], title)
         told = tool("exchange", one.address, other.address, "d", status=1)
-        assert told == ("handed over 0, refused 0; the fronts agree, and the documents differ\n"
-                        "two starts of a server had one name: keep one side (GUIDE, \"When two starts had one name\")\n")
+        assert told == f"handed over 0: from 1 on they have different operations of srv-1\n{advice}"
+        before = Older(one)
+        told = tool("exchange", before.address, other.address, "d", status=1)
+        assert told == f"handed over 0, refused 0; the fronts agree, and the documents differ\n{advice}"
         with jcrdt.connected(one.address) as session:
             session.open("d")
             session.assign("d", [0, "day"], "Friday")
         told = tool("exchange", one.address, other.address, "d", status=1)
+        assert told == f"handed over 0: from 1 on they have different operations of srv-1\n{advice}"
+        told = tool("exchange", before.address, other.address, "d", status=1)
         assert "refused: 2 of srv-1: 16 own-name\nhanded over 0, refused 1; the fronts differ\n" in told
     finally:
         other.kill()

@@ -83,6 +83,29 @@ def test_ids_that_were_given_out_again_are_no_writes_of_before(serve: Serve, tmp
     session.close()
 
 
+def test_a_flush_looks_at_each_write_in_another_session(serve: Serve, tmp_path: Path) -> None:
+    """A server over an older file has the last write, and another one in place of one before it."""
+    server, writes = serve("d"), Writes("d")
+    server.kill()
+    for end in ("", "-wal"):
+        if Path(server.file + end).exists():
+            shutil.copy(server.file + end, f"{tmp_path / 'backup'}{end}")
+    server.start()
+    with jcrdt.connected(server.address) as session:
+        session.open("d")
+        ids = [writes.send(session, "assign", [0, key], number) for number, key in enumerate("abc")]
+    restored(server, tmp_path / "backup")
+    with jcrdt.connected(server.address) as other:
+        other.open("d")
+        assert [other.assign("d", [0, key], number) for number, key in enumerate("axc")] == ids
+        for _ in range(2):
+            with pytest.raises(Lost, match="the server was started again and has others in place of writes"):
+                writes.flush(other, file=server.file)
+        assert writes.send_again(other) == (1, [])
+        assert writes.flush(other, file=server.file) == 3
+        assert other.plain("d", [0]) == {"a": 0, "x": 1, "b": 1, "c": 2}
+
+
 def test_flush_means_on_disk(serve: Serve) -> None:
     """What was flushed is there after a kill, from the file alone."""
     server = serve("d")

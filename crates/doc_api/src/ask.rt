@@ -63,6 +63,9 @@ pub enum Query {
     Look(Look, Place),
     /// The first so many of the logged operations that the front does not cover.
     Operations(Front, u64),
+    /// For each pair of the second front a digest of the operations of its replica, up to its
+    /// counter and behind the counter that the first front has of the replica, or 0.
+    Chains(Front, Front),
     /// Whether the stored log has the operation of this id.
     IsCopied(Id),
     /// The document as a whole.

@@ -75,6 +75,8 @@ pub enum Reply {
     Sum(i128),
     /// Logged operations that the front doesn't cover, in the order of the log, as JSON text.
     Operations(CompactText),
+    /// Pairs of a front, each with a digest of its replica's operations, as JSON text.
+    Chains(CompactText),
     /// The front of the whole log.
     Front(Front),
     /// To the query `Held`: the held operations, and what each waits for.
@@ -117,6 +119,7 @@ impl Drop for Reply {
             Reply::Show(_) => {}
             Reply::Sum(_) => {}
             Reply::Operations(_) => {}
+            Reply::Chains(_) => {}
             Reply::Front(_) => {}
             Reply::Waiting(_) => {}
             Reply::Account(_) => {}

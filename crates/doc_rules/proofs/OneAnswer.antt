@@ -214,5 +214,6 @@ one_answer r counts (query.Resolve place) x y = one_at r place (λ c a. a ≡ re
 one_answer r counts (query.Look l place) x y =
     one_at r place (LooksHere (replica_facts r) (value_put_at r.log) l) (one_look (replica_facts r) (value_put_at r.log) l) x y
 one_answer r counts (query.Operations front limit) x y = λ a b. a ∙ sym b
+one_answer r counts (query.Chains after front) x y = λ a b. a ∙ sym b
 one_answer r counts (query.IsCopied i) x y = λ a b. a ∙ sym b
 one_answer r counts (query.State s) x y = λ a b. a ∙ sym b

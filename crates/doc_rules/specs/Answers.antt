@@ -23,6 +23,7 @@ use Rattle.doc_rules.specs.Resolve.{Resolves}
 use Rattle.doc_rules.specs.Role.{value_put_at}
 use Rattle.doc_rules.specs.Shown.{ShowsText}
 use Rattle.doc_rules.specs.Encoded.{KeysText, ItemsText, ConflictsText, operations_text}
+use Rattle.doc_rules.specs.Chains.{chains_text}
 
 -- the reply to a reading, or the cause against it
 abbrev pub reply_with : {X : Type 0} → (X → Reply) → Result X Refusal → Reply
@@ -69,6 +70,7 @@ Reads r counts (query.Look look place) answer =
     ReadsAt r place (LooksHere (replica_facts r) (value_put_at r.log) look) answer
 Reads r counts (query.Operations front limit) answer =
     answer ≡ reply.Operations (operations_text (take limit (since front r.log)))
+Reads r counts (query.Chains after front) answer = answer ≡ reply.Chains (chains_text after front r.log)
 Reads r counts (query.IsCopied i) answer =
     answer ≡ reply.Copied (is_logged (take counts.copied r.log) i)
 Reads r counts (query.State s) answer = answer ≡ state_reply r counts s

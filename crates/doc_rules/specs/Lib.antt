@@ -3,6 +3,7 @@ pub mod Role
 pub mod Views
 pub mod Shown
 pub mod Encoded
+pub mod Chains
 pub mod Resolve
 pub mod Cause
 pub mod Replica

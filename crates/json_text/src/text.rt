@@ -56,6 +56,16 @@ impl JsonText {
         })
     }
 
+    /// Empty text in the room of bytes that are dropped. Allocates nothing.
+    pub fn in_room_of(mut bytes: Vec<u8>) -> JsonText
+        ensures { result ≡ [] }
+    {
+        bytes.clear();
+        JsonText {
+            writer: Writer::new(bytes),
+        }
+    }
+
     /// Begins an array.
     pub fn begin_list(&mut self) -> Result<(), Refusal>
         ensures { Puts (begin_array ∷ []) self.old self.new result }

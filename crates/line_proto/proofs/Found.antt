@@ -21,7 +21,7 @@ use Rattle.op_core.proofs.Operations.{ReadsOp-from_answer}
 use Rattle.doc_api.specs.declared.place.Step.{Step}
 use Rattle.doc_api.specs.declared.place.Step.TheVariants.{Get, Index}
 use Rattle.doc_api.specs.declared.ask.Look.{Look}
-use Rattle.line_proto.specs.Reading.{step_from, steps_from, variable_of, variable_from, start_of_number, start_from, expr_items, expr_from, named, bare_requests, bare_request, states, state_of_word, plain_request, looks, look_of, look_from, deletion_request, delivery_from, forgetting_from, copied_from, short_request, naming_from, limit_of, limit_from, in_order, ops_from, amount_of, addition_of, mutation_of_verb, change_request, long_request, doc_request_items, bare_from, named_from, request_items, request_from, line_data, request_of}
+use Rattle.line_proto.specs.Reading.{step_from, steps_from, variable_of, variable_from, start_of_number, start_from, expr_items, expr_from, named, bare_requests, bare_request, states, state_of_word, plain_request, looks, look_of, look_from, deletion_request, delivery_from, forgetting_from, copied_from, short_request, naming_from, limit_of, limit_from, in_order, ops_from, both_in_order, fronts_from, chains_from, amount_of, addition_of, mutation_of_verb, change_request, long_request, doc_request_items, bare_from, named_from, request_items, request_from, line_data, request_of}
 use Rattle.line_proto.specs.Written.{start_data, step_data, expr_data, asks, state_word, look_word, change_data, doc_request_data, request_data, is_variable, is_start, is_amount, is_put, is_change, is_doc_request, is_request}
 use Rattle.line_proto.specs.declared.request.Start.{Start}
 use Rattle.line_proto.specs.declared.request.Start.TheVariants.{Document, Variable}
@@ -34,15 +34,15 @@ use Rattle.line_proto.specs.declared.request.Request.TheVariants.{Of}
 -- ---- steps
 
 -- a step that is refused where there is none
-found_step : {A B : Type 0} (o : Option A) (e : Refusal) (f : A → Result B Refusal) (y : B) → and_then (ok_or o e) f ≡ Ok y → (x : A) × (o ≡ Some x) × (f x ≡ Ok y)
+pub found_step : {A B : Type 0} (o : Option A) (e : Refusal) (f : A → Result B Refusal) (y : B) → and_then (ok_or o e) f ≡ Ok y → (x : A) × (o ≡ Some x) × (f x ≡ Ok y)
 found_step (Some x) e f y h = (x, refl, h)
 found_step None e f y h = cc
 
-ok_or-Ok : {A : Type 0} (o : Option A) (e : Refusal) (y : A) → ok_or o e ≡ Ok y → o ≡ Some y
+pub ok_or-Ok : {A : Type 0} (o : Option A) (e : Refusal) (y : A) → ok_or o e ≡ Ok y → o ≡ Some y
 ok_or-Ok (Some x) e y h = let same : x ≡ y = cc in ap Some same
 ok_or-Ok None e y h = cc
 
-if_Ok : {A : Type 0} (b : Bool) (e : Refusal) (x y : A) → cond b (Ok x) (Err e) ≡ Ok y → (b ≡ true) × (x ≡ y)
+pub if_Ok : {A : Type 0} (b : Bool) (e : Refusal) (x y : A) → cond b (Ok x) (Err e) ≡ Ok y → (b ≡ true) × (x ≡ y)
 if_Ok true e x y h = (refl, cc)
 if_Ok false e x y h = cc
 
@@ -80,7 +80,7 @@ step_from-Some (string s) step h = let get : step ≡ Get s = cc in ap step_data
 step_from-Some (array ds) step h = cc
 step_from-Some (object ms) step h = cc
 
-steps_from-Some : (ds : Items) (steps : List Step) → steps_from ds ≡ Some steps → items_of (map step_data steps) ≡ ds
+pub steps_from-Some : (ds : Items) (steps : List Step) → steps_from ds ≡ Some steps → items_of (map step_data steps) ≡ ds
 steps_from-Some no_items steps h = let none : steps ≡ [] = cc in rw none refl
 steps_from-Some (item d ds) steps h =
     let first = some_step (step_from d) _ steps h in
@@ -186,7 +186,7 @@ writes_two : (verb word document : List ℕ) (a b d e : Data) (asked found : Doc
 writes_two verb word document a b d e asked found is at_a at_b same form within =
     (ap (doc_request_data document) same ∙ form ∙ (λ i. asks (sym is i) document (at_a i ∷ at_b i ∷ [])), ap is_doc_request same ∙ within)
 
-both_hold : (a b : Bool) → a ≡ true → b ≡ true → (a && b) ≡ true
+pub both_hold : (a b : Bool) → a ≡ true → b ≡ true → (a && b) ≡ true
 both_hold a b h k = rw (h, k) refl
 
 deletion-Ok : (verb document : List ℕ) (a : Data) → verb ≡ codes "delete" → OkWrites verb document (a ∷ []) (deletion_request a)
@@ -215,10 +215,10 @@ copied-Ok verb document a is asked h =
     let made = ReadsId-from_answer a (Some id.0) id.1 in
     writes_one verb _ document a _ asked _ is made.0 (sym id.2) refl made.1
 
-abbrev IsLookOf : List ℕ → Option Look → Type 0
+abbrev pub IsLookOf : List ℕ → Option Look → Type 0
 IsLookOf verb o = (look : Look) → o ≡ Some look → verb ≡ look_word look
 
-look_of-Some : (verb : List ℕ) → IsLookOf verb (look_of verb)
+pub look_of-Some : (verb : List ℕ) → IsLookOf verb (look_of verb)
 look_of-Some verb look h = sym (named-Some look_word (λ w. w) looks verb look refl h)
 
 look-Ok : (verb document : List ℕ) (a : Data) → OkWrites verb document (a ∷ []) (look_from verb a)
@@ -268,8 +268,20 @@ ops-Ok verb document a b is asked h =
     let within = both_hold _ _ (both_hold _ _ read.1 order.0) bound.1 in
     writes_two verb _ document a b _ _ asked (ask.Operations entries.0 limit.0) is read.0 bound.0 (same ∙ ap (λ f. ask.Operations f limit.0) (sym order.1)) refl within
 
+chains-Ok : (verb document : List ℕ) (a b : Data) → verb ≡ codes "chains" → OkWrites verb document (a ∷ b ∷ []) (chains_from a b)
+chains-Ok verb document a b is asked h =
+    let fronts = ok_step (fronts_from a b) _ asked h in
+    let first = found_step (front_of_json a) BadRequest _ fronts.0 fronts.1 in
+    let second = found_step (front_of_json b) BadRequest _ fronts.0 first.2 in
+    let order = if_Ok (is_ascending first.0 && is_ascending second.0) BadFront (first.0, second.0) fronts.0 second.2 in
+    let same : asked ≡ ask.Chains (fronts.0).0 (fronts.0).1 = cc in
+    let read_first = ReadsFront-from_answer a (Ok first.0) (λ _. sym (ap (λ o. ok_or o BadOperation) first.1)) in
+    let read_second = ReadsFront-from_answer b (Ok second.0) (λ _. sym (ap (λ o. ok_or o BadOperation) second.1)) in
+    let within = both_hold _ _ (both_hold _ _ read_first.1 read_second.1) order.0 in
+    writes_two verb _ document a b _ _ asked (ask.Chains first.0 second.0) is read_first.0 read_second.0 (same ∙ ap (λ (f : List (List ℕ × ℕ) × List (List ℕ × ℕ)). ask.Chains f.0 f.1) (sym order.1)) refl within
+
 -- a change is written with this word and this value, and is within the limits
-abbrev OkPuts : List ℕ → Data → Result Mutation Refusal → Type 0
+abbrev pub OkPuts : List ℕ → Data → Result Mutation Refusal → Type 0
 OkPuts verb b r = (m : Mutation) → r ≡ Ok m → (document : List ℕ) (expr : Data)
     → (change_data document expr m ≡ asks verb document (expr ∷ b ∷ [])) × (is_change m ≡ true)
 
@@ -301,7 +313,7 @@ addition-Ok verb b is m h document expr =
 nothing_put : (verb : List ℕ) (b : Data) → OkPuts verb b (Err BadRequest)
 nothing_put verb b m h document expr = cc
 
-mutation_of_verb-Ok : (verb : List ℕ) (b : Data) → OkPuts verb b (mutation_of_verb verb b)
+pub mutation_of_verb-Ok : (verb : List ℕ) (b : Data) → OkPuts verb b (mutation_of_verb verb b)
 mutation_of_verb-Ok verb b =
     by_word (OkPuts verb b) verb (codes "assign") _ _ (assignment-Ok verb b)
     (by_word (OkPuts verb b) verb (codes "insert") _ _ (insertion-Ok verb b)
@@ -321,7 +333,8 @@ change-Ok verb document a b asked h =
 long_request-Ok : (verb document : List ℕ) (a b : Data) → OkWrites verb document (a ∷ b ∷ []) (long_request verb a b)
 long_request-Ok verb document a b =
     by_word (OkWrites verb document (a ∷ b ∷ [])) verb (codes "let") _ _ (naming-Ok verb document a b)
-    (by_word (OkWrites verb document (a ∷ b ∷ [])) verb (codes "ops") _ _ (ops-Ok verb document a b) (change-Ok verb document a b))
+    (by_word (OkWrites verb document (a ∷ b ∷ [])) verb (codes "ops") _ _ (ops-Ok verb document a b)
+    (by_word (OkWrites verb document (a ∷ b ∷ [])) verb (codes "chains") _ _ (chains-Ok verb document a b) (change-Ok verb document a b)))
 
 plain_is : (verb word document : List ℕ) (one : DocRequest) → verb ≡ word → doc_request_data document one ≡ asks word document [] → is_doc_request one ≡ true → SomeWrites verb document [] (Some one)
 plain_is verb word document one is form within asked h =

@@ -1,5 +1,5 @@
 -- Which refusal is answered for JSON that is no request.
-use Rattle.std.proofs.Common.{◌≡◌, ◌≢◌, inl, inr, ℕ, Bool, true, false, cond, List, [], ◌∷◌, codes, Option, Some, None, Result, Ok, Err, ok_or, IfErr, refl, sym, ap, ◌∙◌, subst}
+use Rattle.std.proofs.Common.{◌≡◌, ◌≢◌, ◌&&◌, inl, inr, ℕ, Bool, true, false, cond, List, [], ◌∷◌, codes, Option, Some, None, Result, Ok, Err, ok_or, IfErr, refl, sym, ap, ◌∙◌, subst}
 use Rattle.std.specs.Prelude.{⊤}
 use Rattle.serde_json.specs.Data.{Data, string, array, Items, no_items, item}
 use Rattle.serde_json.specs.Find.{as_str, as_array}
@@ -15,9 +15,9 @@ use Rattle.op_core.specs.Shape.{first_cause, has_form, has_front, is_shallow}
 use Rattle.op_core.specs.Written.{ReadsOp}
 use Rattle.op_core.proofs.Wires.{as_array-Some, as_str-Some, front_of_json-front_data, ReadsFront-from_answer}
 use Rattle.op_core.proofs.Operations.{ReadsOp-from_answer}
-use Rattle.line_proto.specs.Reading.{variable_from, expr_from, bare_request, plain_request, look_of, look_from, deletion_request, delivery_from, short_request, naming_from, limit_from, in_order, ops_from, amount_of, mutation_of_verb, change_request, long_request, doc_request_items, request_items, request_from, line_data, request_of}
+use Rattle.line_proto.specs.Reading.{variable_from, expr_from, bare_request, plain_request, look_of, look_from, deletion_request, delivery_from, short_request, naming_from, limit_from, in_order, ops_from, both_in_order, fronts_from, chains_from, amount_of, mutation_of_verb, change_request, long_request, doc_request_items, request_items, request_from, line_data, request_of}
 use Rattle.line_proto.specs.Written.{asks, expr_data, is_start}
-use Rattle.line_proto.specs.Refused.{Putting, assigns, inserts, adds, putting_word, AsksToPut, AsksToDeliver, AsksForOperations, IsNoRequest, IsRefusedFor, IsLineRefusedFor}
+use Rattle.line_proto.specs.Refused.{Putting, assigns, inserts, adds, putting_word, AsksToPut, AsksToDeliver, AsksForOperations, AsksForChains, IsNoRequest, IsRefusedFor, IsLineRefusedFor}
 use Rattle.line_proto.specs.declared.request.CursorExpr.{CursorExpr}
 use Rattle.line_proto.specs.declared.request.DocRequest.TheVariants as ask
 use Rattle.line_proto.specs.declared.request.Request.{Request}
@@ -136,7 +136,7 @@ in_order-caused d front pulls = by (is_ascending front) refl
   where
     by : (b : Bool) → is_ascending front ≡ b → IsCaused d (cond b (Ok front) (Err BadFront))
     by true p e is = cc
-    by false p e is = let same : BadFront ≡ e = cc in subst (CauseOf d) same (inr (front, pulls, p))
+    by false p e is = let same : BadFront ≡ e = cc in subst (CauseOf d) same (inr (inl (front, pulls, p)))
 
 asks_for_operations : (verb document : List ℕ) (a b : Data) (front : List (List ℕ × ℕ)) (limit : ℕ) → verb ≡ codes "ops" → front_of_json a ≡ Some front → limit_from b ≡ Some limit
     → AsksForOperations (asks verb document (a ∷ b ∷ [])) front
@@ -159,6 +159,36 @@ ops-caused verb document a b is =
     step d (limit_from b) _ (λ limit bound.
     made_of d (and_then (ok_or (front_of_json a) BadRequest) in_order) (λ front. ask.Operations front limit)
     (step d (front_of_json a) in_order (λ front found. in_order-caused d front (asks_for_operations verb document a b front limit is found bound))))
+
+-- ---- the two fronts of chains
+
+both_in_order-caused : (d : Data) (after front : List (List ℕ × ℕ)) → AsksForChains d after front → IsCaused d (both_in_order after front)
+both_in_order-caused d after front compares = by (is_ascending after && is_ascending front) refl
+  where
+    by : (b : Bool) → (is_ascending after && is_ascending front) ≡ b → IsCaused {A = List (List ℕ × ℕ) × List (List ℕ × ℕ)} d (cond b (Ok (after, front)) (Err BadFront))
+    by true p e is = cc
+    by false p e is = let same : BadFront ≡ e = cc in subst (CauseOf d) same (inr (inr (after, front, compares, p)))
+
+asks_for_chains : (verb document : List ℕ) (a b : Data) (after front : List (List ℕ × ℕ)) → verb ≡ codes "chains" → front_of_json a ≡ Some after → front_of_json b ≡ Some front
+    → AsksForChains (asks verb document (a ∷ b ∷ [])) after front
+asks_for_chains verb document a b after front is found bound =
+    let first = ReadsFront-from_answer a (Ok after) (λ _. sym (ap (λ o. ok_or o BadOperation) found)) in
+    let second = ReadsFront-from_answer b (Ok front) (λ _. sym (ap (λ o. ok_or o BadOperation) bound)) in
+    let at_a = first.0 in
+    let at_b = second.0 in
+    record {
+      document = document;
+      after_entries = first.1;
+      entries = second.1;
+      form = λ i. asks (sym is i) document (at_a i ∷ at_b i ∷ []);
+    }
+
+chains-caused : (verb document : List ℕ) (a b : Data) → verb ≡ codes "chains" → IsCaused (asks verb document (a ∷ b ∷ [])) (chains_from a b)
+chains-caused verb document a b is =
+    let d = asks verb document (a ∷ b ∷ []) in
+    made_of d (fronts_from a b) (λ fronts. ask.Chains fronts.0 fronts.1)
+    (step d (front_of_json a) _ (λ after found.
+    step d (front_of_json b) _ (λ front bound. both_in_order-caused d after front (asks_for_chains verb document a b after front is found bound))))
 
 -- ---- what else is asked: only the form is refused
 
@@ -183,7 +213,8 @@ long_request-caused : (verb document : List ℕ) (a b : Data) → IsCaused (asks
 long_request-caused verb document a b =
     let d = asks verb document (a ∷ b ∷ []) in
     by_word (IsCaused d) verb (codes "let") _ _ (λ is. naming-caused d a b)
-    (by_word (IsCaused d) verb (codes "ops") _ _ (ops-caused verb document a b) (change-caused verb document a b))
+    (by_word (IsCaused d) verb (codes "ops") _ _ (ops-caused verb document a b)
+    (by_word (IsCaused d) verb (codes "chains") _ _ (chains-caused verb document a b) (change-caused verb document a b)))
 
 -- ---- requests
 
@@ -272,9 +303,22 @@ pulled-formed d front p is = by (is_ascending front) refl
     by true q = let same : Ok (Of p.document (ask.Operations front p.limit)) ≡ Err BadRequest = sym (pulled d front p true q) ∙ is in cc
     by false q = let same : ◌≡◌ {A = Result Request Refusal} (Err BadFront) (Err BadRequest) = sym (pulled d front p false q) ∙ is in cc
 
+-- what asks for chains is refused for the order of its fronts alone
+pub compared : (d : Data) (after front : List (List ℕ × ℕ)) → (p : AsksForChains d after front) → (b : Bool) → (is_ascending after && is_ascending front) ≡ b
+    → request_from d ≡ cond b (Ok (Of p.document (ask.Chains after front))) (Err BadFront)
+compared d after front p true is = sym (ap request_from p.form) ∙ rw (front_of_json-front_data after p.after_entries, front_of_json-front_data front p.entries, is) refl
+compared d after front p false is = sym (ap request_from p.form) ∙ rw (front_of_json-front_data after p.after_entries, front_of_json-front_data front p.entries, is) refl
+
+compared-formed : (d : Data) (after front : List (List ℕ × ℕ)) → AsksForChains d after front → request_from d ≢ Err BadRequest
+compared-formed d after front p is = by (is_ascending after && is_ascending front) refl
+  where
+    by : (b : Bool) → (is_ascending after && is_ascending front) ≡ b → ⊥
+    by true q = let same : Ok (Of p.document (ask.Chains after front)) ≡ Err BadRequest = sym (compared d after front p true q) ∙ is in cc
+    by false q = let same : ◌≡◌ {A = Result Request Refusal} (Err BadFront) (Err BadRequest) = sym (compared d after front p false q) ∙ is in cc
+
 pub is_refused_for : (d : Data) (e : Refusal) → request_from d ≡ Err e → IsRefusedFor d e
 is_refused_for d BadRequest is =
-    (no_request d BadRequest is, (λ p. let clash : BadRequest ≡ BadValue = put-refused d p BadRequest is in cc), (λ op p. delivered-formed d op p is), (λ front p. pulled-formed d front p is))
+    (no_request d BadRequest is, (λ p. let clash : BadRequest ≡ BadValue = put-refused d p BadRequest is in cc), (λ op p. delivered-formed d op p is), (λ front p. pulled-formed d front p is), (λ after front p. compared-formed d after front p is))
 is_refused_for d BadValue is = (request_from-caused d BadValue is, no_request d BadValue is)
 is_refused_for d NoMemory is = tt
 is_refused_for d e is = request_from-caused d e is

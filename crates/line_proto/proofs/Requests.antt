@@ -29,7 +29,7 @@ use Rattle.line_proto.specs.declared.request.DocRequest.TheVariants as ask
 use Rattle.line_proto.specs.declared.request.Request.{Request}
 use Rattle.line_proto.specs.declared.request.Request.TheVariants.{Of}
 
-steps_from-step_data : (steps : List Step) → steps_from (items_of (map step_data steps)) ≡ Some steps
+pub steps_from-step_data : (steps : List Step) → steps_from (items_of (map step_data steps)) ≡ Some steps
 steps_from-step_data [] = refl
 steps_from-step_data (Get text ∷ steps) = rw (steps_from-step_data steps) refl
 steps_from-step_data (Index n ∷ steps) = rw (steps_from-step_data steps) refl
@@ -41,7 +41,7 @@ expr_from-parts (Variable name) steps h = rw (h, steps_from-step_data steps) ref
 pub expr_from-expr_data : (expr : CursorExpr) → is_start expr.start ≡ true → expr_from (expr_data expr) ≡ Some expr
 expr_from-expr_data expr h = expr_from-parts expr.start expr.steps h
 
-val_of-put : (val : Val) → is_put val ≡ true → val_of (val_data val) ≡ Ok val
+pub val_of-put : (val : Val) → is_put val ≡ true → val_of (val_data val) ≡ Ok val
 val_of-put (Scalar (Int (pos n))) h = val_of-val_data (Scalar (Int (pos n))) h
 val_of-put (Scalar (Int (negsuc n))) h = refl
 val_of-put (Scalar (Text text)) h = val_of-val_data (Scalar (Text text)) h
@@ -50,7 +50,7 @@ val_of-put (Scalar Null) h = refl
 val_of-put EmptyMap h = refl
 val_of-put EmptyList h = refl
 
-int_of-of_integer : (n : ℤ) → is_amount n ≡ true → int_of (of_integer n) ≡ Some n
+pub int_of-of_integer : (n : ℤ) → is_amount n ≡ true → int_of (of_integer n) ≡ Some n
 int_of-of_integer (pos n) h = rw h
 int_of-of_integer (negsuc n) h = refl
 
@@ -83,6 +83,10 @@ reads_doc_request document (ask.Operations front limit) h =
     let parts = and_parts (list_all is_entry front && is_ascending front) (nat_le 1 limit && nat_le limit 64) h in
     let order = and_parts (list_all is_entry front) (is_ascending front) parts.0 in
     rw (parts.1, front_of_json-front_data front order.0, order.1) refl
+reads_doc_request document (ask.Chains after front) h =
+    let parts = and_parts (list_all is_entry after && list_all is_entry front) (is_ascending after && is_ascending front) h in
+    let entries = and_parts (list_all is_entry after) (list_all is_entry front) parts.0 in
+    rw (front_of_json-front_data after entries.0, front_of_json-front_data front entries.1, parts.1) refl
 reads_doc_request document (ask.IsCopied id) h = rw (id_from-id_data id h) refl
 reads_doc_request document (ask.Forget id) h = rw (id_from-id_data id h) refl
 

@@ -18,7 +18,7 @@ use Rattle.line_proto.specs.Reading.{request_from, line_data, request_of}
 use Rattle.line_proto.specs.Refused.{AsksToDeliver, IsRefusedFor, IsLineRefusedFor}
 use Rattle.line_proto.specs.declared.request.Request.{Request}
 use Rattle.line_proto.proofs.Found.{request_from-Ok}
-use Rattle.line_proto.proofs.Refusing.{delivered, is_refused_for, op_from-never_memory, pulled, put-refused, request_from-caused}
+use Rattle.line_proto.proofs.Refusing.{delivered, compared, is_refused_for, op_from-never_memory, pulled, put-refused, request_from-caused}
 
 -- ---- operations
 
@@ -92,7 +92,8 @@ only_form d stated BadValue is h = absurd (stated.1 h.0)
 only_form d stated TooDeep is (op, p, reads) = absurd (stated.2 op p)
 only_form d stated BadOperation is (op, p, reads) = absurd (stated.2 op p)
 only_form d stated BadFront is (inl (op, p, reads)) = absurd (stated.2 op p)
-only_form d stated BadFront is (inr (front, p, order)) = absurd (stated.3 front p)
+only_form d stated BadFront is (inr (inl (front, p, order))) = absurd (stated.3 front p)
+only_form d stated BadFront is (inr (inr (after, front, p, order))) = absurd (stated.4 after front p)
 only_form d stated NoMemory is h = absurd (request_from-caused d NoMemory is)
 only_form d stated e is h = absurd h
 
@@ -110,7 +111,8 @@ answer_stated d BadValue stated other = by (request_from d) refl
 answer_stated d TooDeep (op, p, reads) other = delivery_stated d op TooDeep p reads other
 answer_stated d BadOperation (op, p, reads) other = delivery_stated d op BadOperation p reads other
 answer_stated d BadFront (inl (op, p, reads)) other = delivery_stated d op BadFront p reads other
-answer_stated d BadFront (inr (front, p, order)) other = pulled d front p false order
+answer_stated d BadFront (inr (inl (front, p, order))) other = pulled d front p false order
+answer_stated d BadFront (inr (inr (after, front, p, order))) other = compared d after front p false order
 answer_stated d NoMemory stated other = absurd (other refl)
 answer_stated d e stated other = absurd stated
 

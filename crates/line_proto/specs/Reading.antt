@@ -157,6 +157,20 @@ ops_from f n =
     and_then (ok_or (limit_from n) BadRequest) (λ limit.
     and_then (ascending_from f) (λ front. Ok (ask.Operations front limit)))
 
+-- two fronts that ascend
+abbrev pub both_in_order : List (List ℕ × ℕ) → List (List ℕ × ℕ)
+    → Result (List (List ℕ × ℕ) × List (List ℕ × ℕ)) Refusal
+both_in_order first second =
+    if is_ascending first && is_ascending second then Ok (first, second) else Err BadFront
+
+abbrev pub fronts_from : Data → Data → Result (List (List ℕ × ℕ) × List (List ℕ × ℕ)) Refusal
+fronts_from a b =
+    and_then (ok_or (front_of_json a) BadRequest) (λ first.
+    and_then (ok_or (front_of_json b) BadRequest) (λ second. both_in_order first second))
+
+abbrev pub chains_from : Data → Data → Result DocRequest Refusal
+chains_from a b = and_then (fronts_from a b) (λ fronts. Ok (ask.Chains fronts.0 fronts.1))
+
 -- an integer of 64 bits
 abbrev pub amount_of : Data → Option ℤ
 amount_of d = as_number d >>= int_of
@@ -181,7 +195,8 @@ abbrev pub long_request : List ℕ → Data → Data → Result DocRequest Refus
 long_request verb a b =
     if bytes_eq verb (codes "let") then naming_from a b
     else (if bytes_eq verb (codes "ops") then ops_from a b
-    else change_request verb a b)
+    else (if bytes_eq verb (codes "chains") then chains_from a b
+    else change_request verb a b))
 
 -- a request on a document, by its word and the items after the document's name
 abbrev pub doc_request_items : List ℕ → Items → Result DocRequest Refusal

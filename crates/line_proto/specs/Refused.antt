@@ -1,5 +1,5 @@
 -- For which causes a line that is no request is refused, stated by the written forms alone.
-use Rattle.std.specs.Prelude.{◌≡◌, ◌≢◌, ◌⊎◌, ℕ, false, List, [], ◌∷◌, codes, Option, Some, None}
+use Rattle.std.specs.Prelude.{◌≡◌, ◌≢◌, ◌⊎◌, ℕ, ◌&&◌, false, List, [], ◌∷◌, codes, Option, Some, None}
 use Rattle.std.specs.Prelude.{Err, IsTrue, ⊤}
 use Rattle.std.specs.List.{list_all}
 use Rattle.serde_json.specs.Data.{Data, number, unsigned}
@@ -48,23 +48,33 @@ pub record AsksForOperations (d : Data) (front : List (List ℕ × ℕ)) : Type 
   pub limited : IsTrue (is_limit limit)
   pub form : asks (codes "ops") document (front_data front ∷ number (unsigned limit) ∷ []) ≡ d
 
+-- The JSON asks for the chains between these fronts, whatever their order.
+pub record AsksForChains (d : Data) (after front : List (List ℕ × ℕ)) : Type 0 where
+  pub document : List ℕ
+  pub after_entries : IsTrue (list_all is_entry after)
+  pub entries : IsTrue (list_all is_entry front)
+  pub form : asks (codes "chains") document (front_data after ∷ front_data front ∷ []) ≡ d
+
 -- no request is written so
 abbrev pub IsNoRequest : Data → Type 0
 IsNoRequest d = (r : Request) → IsTrue (is_request r) → request_data r ≢ d
 
 -- The causes for which JSON that is no request may be refused: it has no form of a request; or it
--- has one, and what is put is no value, what is delivered is refused so, or the front doesn't
+-- has one, and what is put is no value, what is delivered is refused so, or a front doesn't
 -- ascend. Or there is no memory.
 abbrev pub IsRefusedFor : Data → Refusal → Type 0
 IsRefusedFor d BadRequest =
     IsNoRequest d × ¬ AsksToPut d × ((op : Data) → ¬ AsksToDeliver d op)
     × ((front : List (List ℕ × ℕ)) → ¬ AsksForOperations d front)
+    × ((after front : List (List ℕ × ℕ)) → ¬ AsksForChains d after front)
 IsRefusedFor d BadValue = AsksToPut d × IsNoRequest d
 IsRefusedFor d TooDeep = (op : Data) × AsksToDeliver d op × ReadsOp op (Err TooDeep)
 IsRefusedFor d BadOperation = (op : Data) × AsksToDeliver d op × ReadsOp op (Err BadOperation)
 IsRefusedFor d BadFront =
     ((op : Data) × AsksToDeliver d op × ReadsOp op (Err BadFront))
-    ⊎ ((front : List (List ℕ × ℕ)) × AsksForOperations d front × (is_ascending front ≡ false))
+    ⊎ (((front : List (List ℕ × ℕ)) × AsksForOperations d front × (is_ascending front ≡ false))
+    ⊎ ((after front : List (List ℕ × ℕ)) × AsksForChains d after front
+    × ((is_ascending after && is_ascending front) ≡ false)))
 IsRefusedFor d NoMemory = ⊤
 IsRefusedFor d _ = ⊥
 

@@ -12,6 +12,7 @@ use Rattle.doc_api.specs.declared.reply.Reply.{Reply}
 use Rattle.doc_api.specs.declared.reply.Reply.TheVariants.{Applied, Known, Held, Forgotten}
 use Rattle.doc_api.specs.declared.reply.Reply.TheVariants.{Resolved, Keys, Values}
 use Rattle.doc_api.specs.declared.reply.Reply.TheVariants.{Items, Conflicts, Show, Sum, Operations}
+use Rattle.doc_api.specs.declared.reply.Reply.TheVariants.{Chains}
 use Rattle.doc_api.specs.declared.reply.Reply.TheVariants.{Front, Waiting}
 use Rattle.doc_api.specs.declared.reply.Reply.TheVariants.{Account, Size, Copied, Refused}
 use Rattle.line_feed.specs.Cut.{line_of}
@@ -55,6 +56,7 @@ reply_data (Conflicts text) = null
 reply_data (Show text) = null
 reply_data (Sum total) = worded (codes "sum") (string (signed_decimal total) ∷ [])
 reply_data (Operations text) = null
+reply_data (Chains text) = null
 reply_data (Front front) = worded (codes "front") (front_data front ∷ [])
 reply_data (Waiting held) = worded (codes "waiting") (list_data (map waiting_data held) ∷ [])
 reply_data (Account n) = worded (codes "account") (count_data n ∷ [])
@@ -80,6 +82,7 @@ reply_text (Items text) = around (codes "[\"items\",") text
 reply_text (Conflicts text) = around (codes "[\"conflicts\",") text
 reply_text (Show text) = around (codes "[\"show\",") text
 reply_text (Operations text) = around (codes "[\"ops\",") text
+reply_text (Chains text) = around (codes "[\"chains\",") text
 reply_text reply = compact_text (reply_data reply)
 
 -- the compact text of a reply

@@ -4,7 +4,7 @@ use Rattle.std.specs.Io.KnownBytes.{Appends}
 use Rattle.doc_api.specs.declared.reply.Reply.{Reply}
 use Rattle.doc_api.specs.declared.reply.Reply.TheVariants.{Applied, Known, Held, Waiting, Forgotten}
 use Rattle.doc_api.specs.declared.reply.Reply.TheVariants.{Account, Size, Copied, Refused, Keys, Items}
-use Rattle.doc_api.specs.declared.reply.Reply.TheVariants.{Conflicts, Show, Operations}
+use Rattle.doc_api.specs.declared.reply.Reply.TheVariants.{Conflicts, Show, Operations, Chains}
 use Rattle.line_proto.specs.declared.line_reply.LineReply.{LineReply}
 use Rattle.line_proto.specs.declared.line_reply.LineReply.TheVariants.{Answered}
 use Rattle.line_proto.specs.declared.write.WriteFault.{WriteFault}
@@ -27,6 +27,7 @@ needs_heap (Items text) = false
 needs_heap (Conflicts text) = false
 needs_heap (Show text) = false
 needs_heap (Operations text) = false
+needs_heap (Chains text) = false
 needs_heap _ = true
 
 -- whether the reply's line is written in pieces
@@ -38,6 +39,7 @@ is_in_pieces (Items text) = true
 is_in_pieces (Conflicts text) = true
 is_in_pieces (Show text) = true
 is_in_pieces (Operations text) = true
+is_in_pieces (Chains text) = true
 is_in_pieces _ = false
 
 abbrev pub line_needs_heap : LineReply → Bool

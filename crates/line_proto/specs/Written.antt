@@ -72,6 +72,8 @@ doc_request_data document (ask.Let name expr) = asks (codes "let") document (str
 doc_request_data document (ask.Deliver op) = asks (codes "deliver") document (wire op ∷ [])
 doc_request_data document (ask.Operations front limit) =
     asks (codes "ops") document (front_data front ∷ number (unsigned limit) ∷ [])
+doc_request_data document (ask.Chains after front) =
+    asks (codes "chains") document (front_data after ∷ front_data front ∷ [])
 doc_request_data document (ask.IsCopied id) = asks (codes "copied") document (id_data id ∷ [])
 doc_request_data document (ask.Forget id) = asks (codes "forget") document (id_data id ∷ [])
 
@@ -119,6 +121,8 @@ is_doc_request (ask.Let name expr) = is_variable name && is_start expr.start
 is_doc_request (ask.Deliver op) = is_shaped op
 is_doc_request (ask.Operations front limit) = (list_all is_entry front && is_ascending front)
     && is_limit limit
+is_doc_request (ask.Chains after front) = (list_all is_entry after && list_all is_entry front)
+    && (is_ascending after && is_ascending front)
 is_doc_request (ask.IsCopied id) = is_id id
 is_doc_request (ask.Forget id) = is_id id
 

@@ -15,6 +15,6 @@ mod write;
 pub use cursor::read_steps;
 pub use line_reply::{LineReply, VERSION};
 pub use name::Name;
-pub use parse::{look_of, read_ascending, read_json, read_limit, read_mutation};
+pub use parse::{look_of, read_ascending, read_fronts, read_json, read_limit, read_mutation};
 pub use request::{CursorExpr, DocRequest, Request, Start};
 pub use write::WriteFault;

@@ -12,6 +12,7 @@ ghost use Rattle.line_proto.specs.Reading.{deletion_request};
 ghost use Rattle.line_proto.specs.Reading.{copied_from, delivery_from, forgetting_from, short_request};
 ghost use Rattle.line_proto.specs.Reading.{naming_from, limit_of};
 ghost use Rattle.line_proto.specs.Reading.{limit_from, in_order, ascending_from, ops_from};
+ghost use Rattle.line_proto.specs.Reading.{both_in_order, fronts_from, chains_from};
 ghost use Rattle.line_proto.specs.Reading.{addition_of};
 ghost use Rattle.line_proto.specs.Reading.{mutation_of_verb, amount_of};
 ghost use Rattle.line_proto.specs.Reading.{change_request, long_request, doc_request_items};
@@ -285,6 +286,7 @@ fn long_request(
     match verb {
         "let" => read_naming(alloc, third, fourth),
         "ops" => read_ops(alloc, third, fourth),
+        "chains" => read_chains(alloc, third, fourth),
         _ => read_change(alloc, verb, third, fourth),
     }
 }
@@ -338,6 +340,32 @@ fn in_order(front: Front) -> Result<Front, Refusal>
     } else {
         Err(Refusal::BadFront)
     }
+}
+
+fn read_chains(alloc: Global, after: &Value, front: &Value) -> Result<DocRequest, Refusal>
+    ensures { UnlessMemory result (chains_from (view after.now) (view front.now)) }
+{
+    let (after, front) = read_fronts(alloc, after, front)?;
+    Ok(DocRequest::Chains(after, front))
+}
+
+/// The two fronts that these JSON values write. `BadRequest` where one of them writes none,
+/// `BadFront` where one doesn't ascend, `NoMemory` when out of memory.
+pub fn read_fronts(alloc: Global, first: &Value, second: &Value) -> Result<(Front, Front), Refusal>
+    ensures { UnlessMemory result (fronts_from (view first.now) (view second.now)) }
+{
+    let first = read_any_front(alloc, first)?;
+    let second = read_any_front(alloc, second)?;
+    both_in_order(first, second)
+}
+
+fn both_in_order(first: Front, second: Front) -> Result<(Front, Front), Refusal>
+    ensures { result ≡ both_in_order first second }
+{
+    if !(first.is_ascending() && second.is_ascending()) {
+        return Err(Refusal::BadFront);
+    }
+    Ok((first, second))
 }
 
 fn read_any_front(alloc: Global, value: &Value) -> Result<Front, Refusal>

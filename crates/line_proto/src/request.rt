@@ -40,6 +40,9 @@ pub enum DocRequest {
     /// The first so many of the logged operations that the front doesn't cover: 1 to
     /// 64 in a request that was read.
     Operations(Front, u64),
+    /// For each pair of the second front a digest of its replica's operations, behind what the first
+    /// front has of the replica. Both ascend in a request that was read.
+    Chains(Front, Front),
     /// Whether the stored log has an operation.
     IsCopied(Id),
     /// Drop a held operation.

@@ -4,7 +4,7 @@ ghost use Rattle.std.specs.Io.KnownBytes.{Appends};
 ghost use Rattle.serde_json.specs.Data.{Data};
 ghost use Rattle.serde_json.specs.Written.{compact_text};
 ghost use Rattle.doc_api.specs.declared.reply.Reply.TheVariants.{Conflicts, Items, Keys};
-ghost use Rattle.doc_api.specs.declared.reply.Reply.TheVariants.{Operations, Show};
+ghost use Rattle.doc_api.specs.declared.reply.Reply.TheVariants.{Chains, Operations, Show};
 ghost use Rattle.line_feed.specs.Cut.{AppendsCut, line_of};
 ghost use Rattle.line_proto.specs.Replies.{reply_text, line_reply_text, reply_line, worded};
 ghost use Rattle.line_proto.specs.Writing.{needs_heap, is_in_pieces, line_needs_heap, is_device};
@@ -69,8 +69,8 @@ impl LineReply {
             ≡ compact_text (worded (codes "show") (d ∷ [])) }
     {}
 
-    /// The law that keys, the elements of a list, conflicts and operations are written as JSON: for
-    /// the compact text of their array, an array of the word and that array.
+    /// The law that keys, the elements of a list, conflicts, operations and chains are written as
+    /// JSON: for the compact text of their array, an array of the word and that array.
     pub fn listed_as_json()
         ensures keys { (d : Data) →
             line_reply_text (Answered (Keys (compact_text d)))
@@ -83,6 +83,9 @@ impl LineReply {
         ensures ops { (d : Data) →
             line_reply_text (Answered (Operations (compact_text d)))
             ≡ compact_text (worded (codes "ops") (d ∷ [])) }
+        ensures chains { (d : Data) →
+            line_reply_text (Answered (Chains (compact_text d)))
+            ≡ compact_text (worded (codes "chains") (d ∷ [])) }
     {}
 }
 
@@ -118,6 +121,7 @@ fn write_reply<W: Sink>(alloc: Global, reply: &Reply, sink: &mut W) -> Result<()
         Reply::Conflicts(text) => Ok(write_text_line("[\"conflicts\",", text, sink)?),
         Reply::Show(text) => Ok(write_text_line("[\"show\",", text, sink)?),
         Reply::Operations(text) => Ok(write_text_line("[\"ops\",", text, sink)?),
+        Reply::Chains(text) => Ok(write_text_line("[\"chains\",", text, sink)?),
         _ => write_whole(alloc, reply, sink),
     }
 }

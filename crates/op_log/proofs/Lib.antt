@@ -13,3 +13,4 @@ pub mod WholeFronts
 pub mod Deciding
 pub mod Below
 pub mod Lacks
+pub mod Chained

@@ -3,4 +3,5 @@ pub mod Log
 pub mod Index
 pub mod Elements
 pub mod Lacks
+pub mod Chained
 pub mod Known

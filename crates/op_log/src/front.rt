@@ -77,6 +77,30 @@ pub fn counter_in(front: &Front, name: ReplicaName) -> Option<u64>
     counter_among(names, counters, name)
 }
 
+/// The counter of the replica in a front, if it names it. Where the front's pairs ascend, it is
+/// searched.
+pub fn counter_of(front: &Front, name: &ReplicaName) -> Option<u64>
+    ensures { result ≡ entry_of front.now name.now }
+{
+    if front.is_ascending() {
+        return counter_in(front, *name);
+    }
+    first_counter_of(front, name)
+}
+
+// The counter of the replica's first pair, if the front names it.
+fn first_counter_of(front: &Front, name: &ReplicaName) -> Option<u64>
+    ensures { result ≡ entry_of front.now name.now }
+{
+    for at in 0..front.len() {
+        let (other, last) = front.pair_at(at);
+        if other == *name {
+            return Some(last);
+        }
+    }
+    None
+}
+
 /// The counter of the replica in a front, if it names it. The pair at this index is looked at
 /// before the others.
 pub fn counter_near(front: &Front, index: usize, name: ReplicaName) -> Option<u64>

@@ -11,4 +11,5 @@ mod log_position;
 
 pub use check::{MAX_OPERATIONS, MAX_REPLICAS};
 pub use clones::clone_all;
+pub use front::counter_of;
 pub use log::{OpLog, keeps_good};

@@ -17,6 +17,7 @@ ghost use Rattle.doc_rules.specs.Encoded.{operations_text};
 ghost use Rattle.doc_rules.specs.Replica.{find_id};
 ghost use Rattle.op_log.specs.Index.{IsUncovered, CoversBetween};
 ghost use Rattle.op_log.specs.Lacks.{HoldsLacks, IsNextOfSince};
+ghost use Rattle.op_log.specs.Chained.{IsNextOfChain};
 
 use crate::clones::{clone_all, first_uncovered};
 use crate::encode::text_of_uncovered;
@@ -196,6 +197,14 @@ impl OpLog {
     {
         let alloc = *self.entries.allocator();
         text_of_uncovered(alloc, self, front, limit)
+    }
+
+    /// The position of the replica's first operation with a counter above one and at most another,
+    /// or the number of operations. It is searched among those of its replica.
+    pub fn next_of(&self, name: &ReplicaName, above: u64, last: u64) -> usize
+        ensures { IsNextOfChain name.now above last self.now.operations result }
+    {
+        self.index.next_of(&self.entries, name, above, last)
     }
 
     // The position of the first operation from a position on that the front does not cover, or the

@@ -2,3 +2,4 @@ pub mod Paths
 pub mod Cutting
 pub mod Opening
 pub mod Telling
+pub mod Written

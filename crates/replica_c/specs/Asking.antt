@@ -13,7 +13,7 @@ use Rattle.doc_api.specs.Words.{Refusal, Delete}
 use Rattle.doc_api.specs.declared.ask.Command.TheVariants.{Change, Deliver, Forget}
 use Rattle.doc_api.specs.declared.ask.Query.TheVariants as query
 use Rattle.doc_api.specs.declared.ask.State.TheVariants.{Front, Held}
-use Rattle.line_proto.specs.Reading.{ascending_from, limit_from, line_data, look_of}
+use Rattle.line_proto.specs.Reading.{ascending_from, fronts_from, limit_from, line_data, look_of}
 use Rattle.line_proto.specs.Reading.{mutation_of_verb}
 use Rattle.replica_c.specs.Places.{place_from}
 use Rattle.replica_c.specs.declared.ask.Ask.{Ask}
@@ -58,13 +58,19 @@ ask_ops f n =
     and_then (ok_or (limit_from n) BadRequest) (λ limit.
     and_then (ascending_from f) (λ front. Ok (Read (query.Operations front limit))))
 
+abbrev pub ask_chains : Data → Data → Result Ask Refusal
+ask_chains a b = and_then (fronts_from a b) (λ fronts. Ok (Read (query.Chains fronts.0 fronts.1)))
+
 abbrev pub ask_change : List ℕ → Data → Data → Result Ask Refusal
 ask_change verb p d =
     and_then (ok_or (place_from p) BadRequest) (λ place.
     and_then (mutation_of_verb verb d) (λ change. Ok (Act (Change place change))))
 
 abbrev pub long_ask : List ℕ → Data → Data → Result Ask Refusal
-long_ask verb a b = if bytes_eq verb (codes "ops") then ask_ops a b else ask_change verb a b
+long_ask verb a b =
+    if bytes_eq verb (codes "ops") then ask_ops a b
+    else (if bytes_eq verb (codes "chains") then ask_chains a b
+    else ask_change verb a b)
 
 abbrev pub ask_by : List ℕ → Items → Result Ask Refusal
 ask_by verb no_items = ok_or (plain_ask verb) BadRequest

@@ -1,5 +1,6 @@
 pub mod Places
 pub mod Asking
+pub mod Written
 pub mod Serving
 pub mod Stored
 pub mod Handles

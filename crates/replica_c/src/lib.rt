@@ -40,7 +40,7 @@ pub extern "C" fn jcrdt_open(
     operations: &[u8],
     fault: &mut Fault,
 ) -> u64
-    ensures { CallsOpen replica.old.value name.now operations.now result fault.old fault.new replica.new.value }
+    ensures opens { CallsOpen replica.old.value name.now operations.now result fault.old fault.new replica.new.value }
 {
     match mem::replace(replica, Handle::closed()).into_parts(alloc) {
         Some(parts) => {
@@ -63,7 +63,7 @@ pub extern "C" fn jcrdt_ask(
     line: &[u8],
     out: &mut [u8],
 ) -> usize
-    ensures { CallsAsk replica.old.value line.now out.old result replica.new.value out.new }
+    ensures answers { CallsAsk replica.old.value line.now out.old result replica.new.value out.new }
 {
     match mem::replace(replica, Handle::closed()).into_parts(alloc) {
         Some(parts) => {
@@ -97,7 +97,7 @@ pub extern "C" fn jcrdt_again(alloc: Global, replica: &mut Handle, out: &mut [u8
 /// Frees the replica that a handle owns, if it owns one.
 #[unsafe(no_mangle)]
 pub extern "C" fn jcrdt_close(alloc: Global, replica: &mut Handle)
-    ensures { replica.new.value ≡ None }
+    ensures closed { replica.new.value ≡ None }
 {
     match mem::replace(replica, Handle::closed()).into_parts(alloc) {
         Some(parts) => drop(parts.into_box()),

@@ -57,6 +57,20 @@ pub enum Unopened {
     Unfit(Misfit),
 }
 
+// Empties the text, and gives back the memory of one that needed more room.
+fn emptied(alloc: Global, text: Vec<u8>) -> Vec<u8>
+    ensures { result.items ≡ [] }
+{
+    if text.capacity() > ROOM {
+        if let Ok(least) = Vec::with_capacity(alloc, ROOM) {
+            return least;
+        }
+    }
+    let mut text = text;
+    text.clear();
+    text
+}
+
 // Appends a reply's line, and returns whether it could. Only the lines of
 // readings take memory of their own.
 fn told(alloc: Global, reply: &LineReply, text: Vec<u8>) -> (Vec<u8>, bool)
@@ -199,8 +213,10 @@ impl OpenReplica {
         ensures replica { self.new.replica ≡ self.old.replica }
         ensures told { IsTold result (reply_line (Answered reply)) self.new.text.items }
     {
-        let mut text = mem::replace(&mut self.text, Vec::new(self.alloc));
-        text.clear();
+        let text = emptied(
+            self.alloc,
+            mem::replace(&mut self.text, Vec::new(self.alloc)),
+        );
         let (text, is_told) = told(self.alloc, &LineReply::Answered(reply), text);
         self.text = text;
         is_told

@@ -1,10 +1,15 @@
 //! How a line is read.
-ghost use Rattle.std.specs.Prelude.{◌≡◌};
+ghost use Rattle.std.specs.Prelude.{◌≡◌, ◌≢◌, ℕ, List, Some, None, Err};
+ghost use Rattle.serde_json.specs.Data.{Data};
 ghost use Rattle.serde_json.specs.View.{view, items_view};
 ghost use Rattle.json_scalar.specs.Refusal.{UnlessMemory};
+ghost use Rattle.json_scalar.specs.declared.refusal.Refusal.TheVariants.{NotJson, NoMemory};
+ghost use Rattle.op_core.specs.Written.{ReadsOp};
+ghost use Rattle.line_proto.specs.Reading.{line_data};
 ghost use Rattle.replica_c.specs.Asking.{plain_ask, ask_look, ask_where, ask_deletion};
 ghost use Rattle.replica_c.specs.Asking.{ask_delivery};
-ghost use Rattle.replica_c.specs.Asking.{ask_forgetting, short_ask, ask_ops, ask_change, long_ask};
+ghost use Rattle.replica_c.specs.Asking.{ask_forgetting, short_ask, ask_ops, ask_chains, ask_change};
+ghost use Rattle.replica_c.specs.Asking.{long_ask};
 ghost use Rattle.replica_c.specs.Asking.{ask_by};
 ghost use Rattle.replica_c.specs.Asking.{ask_items, ask_from, ask_of, op_of_line};
 
@@ -12,7 +17,7 @@ use crate::ask::Ask;
 use crate::place::read_place;
 use doc_api::{Command, Query, State};
 use json_scalar::Refusal;
-use line_proto::{look_of, read_ascending, read_json, read_limit, read_mutation};
+use line_proto::{look_of, read_ascending, read_fronts, read_json, read_limit, read_mutation};
 use op_core::{Mutation, Operation, read_id, read_wire};
 use serde_json::Value;
 use std::alloc::Global;
@@ -32,6 +37,14 @@ pub(crate) fn read_operation(alloc: Global, line: &[u8]) -> Result<Operation, Re
     let value = read_json(alloc, line)?;
     read_wire(alloc, &value)
 }
+
+/// The law that `op_of_line`, by which the lines of a log are read, is what the written form says.
+pub fn operation_as_written()
+    ensures reads { (line : List ℕ) (d : Data) → line_data line ≡ Some d
+        → ReadsOp d (op_of_line line) }
+    ensures no_json { (line : List ℕ) → line_data line ≡ None → op_of_line line ≡ Err NotJson }
+    ensures sure { (line : List ℕ) → op_of_line line ≢ Err NoMemory }
+{}
 
 fn read_value(alloc: Global, value: &Value) -> Result<Ask, Refusal>
     ensures { UnlessMemory result (ask_from (view value.now)) }
@@ -130,6 +143,7 @@ fn long_ask(alloc: Global, verb: &str, first: &Value, second: &Value) -> Result<
 {
     match verb {
         "ops" => read_ops(alloc, first, second),
+        "chains" => read_chains(alloc, first, second),
         _ => read_change(alloc, verb, first, second),
     }
 }
@@ -141,6 +155,13 @@ fn read_ops(alloc: Global, front: &Value, limit: &Value) -> Result<Ask, Refusal>
         return Err(Refusal::BadRequest);
     };
     Ok(Ask::Read(Query::Operations(read_ascending(alloc, front)?, limit)))
+}
+
+fn read_chains(alloc: Global, after: &Value, front: &Value) -> Result<Ask, Refusal>
+    ensures { UnlessMemory result (ask_chains (view after.now) (view front.now)) }
+{
+    let (after, front) = read_fronts(alloc, after, front)?;
+    Ok(Ask::Read(Query::Chains(after, front)))
 }
 
 fn read_change(alloc: Global, verb: &str, place: &Value, value: &Value) -> Result<Ask, Refusal>

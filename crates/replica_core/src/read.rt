@@ -13,6 +13,7 @@ use doc_tree::Tree;
 use doc_view::{conflicts_text, items_text, keys_text, resolve, show, sum, values};
 use json_scalar::Refusal;
 use lamport_id::Id;
+use log_chains::chains_text;
 use op_core::{Cursor, Front};
 use std::alloc::Global;
 
@@ -31,6 +32,7 @@ impl Body {
             Query::Resolve(place) => self.resolve_place(place),
             Query::Look(look, place) => self.look_at_place(alloc, look, place),
             Query::Operations(front, limit) => self.operations(&front, limit),
+            Query::Chains(after, front) => self.chains(alloc, &after, &front),
             Query::IsCopied(id) => self.is_copied(counts, id),
             Query::State(state) => self.read_state(counts, state),
         }
@@ -84,6 +86,17 @@ impl Body {
     {
         match self.log().since_text(front, limit as usize) {
             Ok(text) => Reply::Operations(text),
+            Err(_) => Reply::Refused(Refusal::NoMemory),
+        }
+    }
+
+    // Digests of the chains of a front's replicas, above what another front has of them.
+    fn chains(&self, alloc: Global, after: &Front, front: &Front) -> Reply
+        ensures { (name : List ℕ) (counts : Counts)
+            → MayAnswer (replica_with name self.now) counts (query.Chains after.now front.now) result }
+    {
+        match chains_text(alloc, self.log(), after, front) {
+            Ok(text) => Reply::Chains(text),
             Err(_) => Reply::Refused(Refusal::NoMemory),
         }
     }

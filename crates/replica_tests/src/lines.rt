@@ -26,6 +26,7 @@ fn kind_on_document(ask: &DocRequest) -> &'static str {
         DocRequest::Let(_, _) => "let",
         DocRequest::Deliver(_) => "deliver",
         DocRequest::Operations(_, _) => "operations",
+        DocRequest::Chains(_, _) => "chains",
         DocRequest::IsCopied(_) => "copied",
         DocRequest::Forget(_) => "forget",
     }
@@ -77,7 +78,7 @@ fn is_of_kind(alloc: Global, line: &str, expected: &str) -> bool {
 }
 
 // A line of each kind, and its kind.
-static REQUESTS: [(&str, &str); 22] = [
+static REQUESTS: [(&str, &str); 23] = [
     ("[\"quit\"]", "quit"),
     ("[\"version\"]", "version"),
     (" [\"open\" , \"d\"]\r", "open"),
@@ -104,6 +105,7 @@ static REQUESTS: [(&str, &str); 22] = [
         "deliver",
     ),
     ("[\"ops\",\"d\",[[\"o\",1],[\"q\",2]],64]", "operations"),
+    ("[\"chains\",\"d\",[],[[\"o\",1],[\"q\",2]]]", "chains"),
     ("[\"forget\",\"d\",[1,\"p\"]]", "forget"),
     ("[\"copied\",\"d\",[1,\"p\"]]", "copied"),
 ];
@@ -117,7 +119,7 @@ fn reads_each_request(rt: HostRuntime) -> Result<(), Fail> {
 }
 
 // Lines that are no request, and the number of the first cause against each.
-static CAUSES: [(&str, u64); 30] = [
+static CAUSES: [(&str, u64); 34] = [
     // no JSON, before all else
     ("", 1u64),
     ("[\"quit\"", 1),
@@ -144,6 +146,8 @@ static CAUSES: [(&str, u64); 30] = [
     ("[\"ops\",\"d\",[[\"q\",1],[\"o\",2]],65]", 2),
     ("[\"ops\",\"d\",[[\"q\",1],[\"o\",2]],0]", 2),
     ("[\"ops\",\"d\",[[\"q\",1],[\"o\",0]],1]", 2),
+    ("[\"chains\",\"d\",[[\"q\",1],[\"o\",2]],[[\"q\",0]]]", 2),
+    ("[\"chains\",\"d\",[]]", 2),
     // a wrong value, an order of a front
     ("[\"assign\",\"d\",[0],1.5]", 6),
     ("[\"insert\",\"nowhere\",[\"unbound\"],[0]]", 6),
@@ -151,6 +155,8 @@ static CAUSES: [(&str, u64); 30] = [
     ("[\"add\",\"d\",[0],\"1\"]", 6),
     ("[\"ops\",\"d\",[[\"q\",1],[\"o\",2]],64]", 13),
     ("[\"ops\",\"d\",[[\"q\",1],[\"q\",2]],1]", 13),
+    ("[\"chains\",\"d\",[[\"q\",1],[\"o\",2]],[]]", 13),
+    ("[\"chains\",\"d\",[],[[\"q\",1],[\"q\",2]]]", 13),
 ];
 
 #[test]
@@ -426,6 +432,19 @@ fn writes_the_log(rt: HostRuntime) -> Result<(), Fail> {
             rt.alloc(),
             Reply::Operations(text),
             "[\"ops\",[[\"op\",[1,\"p\"],[],[[[\"m\",0]],\"n\"],[\"add\",-7]]]]\n"
+        )
+    );
+    Ok(())
+}
+
+#[test]
+fn writes_chains(rt: HostRuntime) -> Result<(), Fail> {
+    let text = CompactText::from(String::from_str(rt.alloc(), "[[\"p\",1,\"00\"]]")?);
+    assert!(rt;
+        is_answered_as(
+            rt.alloc(),
+            Reply::Chains(text),
+            "[\"chains\",[[\"p\",1,\"00\"]]]\n"
         )
     );
     Ok(())

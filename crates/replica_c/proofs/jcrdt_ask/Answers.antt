@@ -16,12 +16,15 @@ returns-in-Some c =
     sym (ap (λ (h : Handle). h.value) c.replace.ensures.value)
     ∙ sym (subst (λ (r : Option (LooseBox OpenReplica Global)). option_map (λ (p : LooseBox OpenReplica Global). p.value) r ≡ c.replace.result.value) c.in-Some.is c.into_parts.ensures) in
     let same : c.deref_mut.result.now ≡ c.in-Some.parts.value = c.deref_mut.ensures.value ∙ c.into_box-kept.ensures in
-    subst (λ (held : Option OpenReplica). CallsAsk held line c.args.out.now c.asked-count.result c.of-in-Some.result.value c.asked-count.new.out) (sym was)
-    (record {
-      then = then;
-      told = told;
-      answers = subst (λ (o : OpenReplica). TellsLine o.replica line told then.replica then.text.items) same tells;
-      after_is = c.of-in-Some.ensures ∙ ap Some c.of.ensures;
-      count = count;
-      given = filled;
-    })
+    record {
+      answers =
+          subst (λ (held : Option OpenReplica). CallsAsk held line c.args.out.now c.asked-count.result c.of-in-Some.result.value c.asked-count.new.out) (sym was)
+          (record {
+            then = then;
+            told = told;
+            answers = subst (λ (o : OpenReplica). TellsLine o.replica line told then.replica then.text.items) same tells;
+            after_is = c.of-in-Some.ensures ∙ ap Some c.of.ensures;
+            count = count;
+            given = filled;
+          });
+    }

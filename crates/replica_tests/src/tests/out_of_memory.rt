@@ -16,6 +16,7 @@ use super::samples::{
 };
 use doc_api::{Command, Look, Query, Reply, State};
 use json_scalar::Refusal;
+use lamport_id::ReplicaName;
 use locked_doc::{Gathering, Ledgers, LockedDoc, Seat, SeatEnd, Shelf};
 use op_core::Front;
 use replica_core::{Misfit, Replica};
@@ -86,7 +87,7 @@ fn command_again(alloc: Global, deed: Deed, text: &str) -> Result<Command, Refus
 }
 
 // How many readings there are.
-const READINGS: usize = 11;
+const READINGS: usize = 12;
 
 fn query(alloc: Global, which: usize) -> Result<Query, Refusal> {
     match which {
@@ -98,10 +99,17 @@ fn query(alloc: Global, which: usize) -> Result<Query, Refusal> {
         5 => look_at(alloc, Look::Sum, "n"),
         6 => Ok(Query::Resolve(member(alloc, "k")?)),
         7 => Ok(Query::Operations(Front::from_pairs(alloc, &[])?, 100)),
-        8 => Ok(Query::State(State::Front)),
-        9 => Ok(Query::State(State::Held)),
+        8 => chains(alloc),
+        9 => Ok(Query::State(State::Front)),
+        10 => Ok(Query::State(State::Held)),
         _ => Ok(Query::State(State::Account)),
     }
+}
+
+fn chains(alloc: Global) -> Result<Query, Refusal> {
+    let name = ReplicaName::read(b"p").ok_or(Refusal::BadRequest)?;
+    let front = Front::from_pairs(alloc, &[(name, 3u64)])?;
+    Ok(Query::Chains(Front::from_pairs(alloc, &[])?, front))
 }
 
 // The text of a reading, which is refused only if out of memory.

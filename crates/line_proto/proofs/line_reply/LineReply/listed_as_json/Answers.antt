@@ -17,3 +17,7 @@ returns-clause-conflicts c = λ d. refl
 pub returns-clause-ops : goal.returns-clause-ops
 unfolding escape_byte
 returns-clause-ops c = λ d. refl
+
+pub returns-clause-chains : goal.returns-clause-chains
+unfolding escape_byte
+returns-clause-chains c = λ d. refl

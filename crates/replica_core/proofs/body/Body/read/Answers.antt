@@ -10,6 +10,9 @@ returns-in-Look-clause-answer c name = rw c.in-Look.is (c.look_at_place.ensures 
 pub returns-in-Operations-clause-answer : goal.returns-in-Operations-clause-answer
 returns-in-Operations-clause-answer c name = rw c.in-Operations.is (c.operations.ensures name c.args.counts)
 
+pub returns-in-Chains-clause-answer : goal.returns-in-Chains-clause-answer
+returns-in-Chains-clause-answer c name = rw c.in-Chains.is (c.chains.ensures name c.args.counts)
+
 pub returns-in-State-clause-answer : goal.returns-in-State-clause-answer
 returns-in-State-clause-answer c name = rw c.in-State.is (c.read_state.ensures.answer name)
 

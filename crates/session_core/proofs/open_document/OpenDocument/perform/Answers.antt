@@ -26,6 +26,10 @@ pub returns-in-Operations : goal.returns-in-Operations
 returns-in-Operations g c =
     served_as g.A.DocAccess c.args.access.now c.read-in-Operations.new.access c.args.self.now c.read-in-Operations.new.self c.read-in-Operations.result c.args.ask (ask.Operations c.in-Operations.front c.in-Operations.limit) c.in-Operations.is c.read-in-Operations.ensures
 
+pub returns-in-Chains : goal.returns-in-Chains
+returns-in-Chains g c =
+    served_as g.A.DocAccess c.args.access.now c.read-in-Chains.new.access c.args.self.now c.read-in-Chains.new.self c.read-in-Chains.result c.args.ask (ask.Chains c.in-Chains.after c.in-Chains.front) c.in-Chains.is c.read-in-Chains.ensures
+
 pub returns-in-IsCopied : goal.returns-in-IsCopied
 returns-in-IsCopied g c =
     served_as g.A.DocAccess c.args.access.now c.read-in-IsCopied.new.access c.args.self.now c.read-in-IsCopied.new.self c.read-in-IsCopied.result c.args.ask (ask.IsCopied c.in-IsCopied.id) c.in-IsCopied.is c.read-in-IsCopied.ensures
