@@ -1,9 +1,11 @@
 /* Two logs are compared before they are mixed: one id may mean two operations, as where a server has
    an older file under its old name. Of each replica that both have, both are asked for digests of its
    operations, up to the counter that both have: in pieces, since a server hashes them while others
-   wait. */
+   wait. A hub knows by a front of which generation a request is: so each piece names the replica that
+   began it. */
 
 import { Refused } from "./errors.mjs";
+import { beginningOf } from "./generations.mjs";
 import { frontPairs } from "./operations.mjs";
 import { REFUSALS } from "./protocol.mjs";
 
@@ -84,6 +86,17 @@ export class Compared {
   }
 }
 
+/** A piece that names the beginning of a generation, too.
+ *  @param {Piece} piece
+ *  @param {Front} beginning
+ *  @returns {Piece} */
+function naming(piece, beginning) {
+  /** @type {Piece} */
+  const named = new Map(beginning.map(([name, last]) => [name, { after: last, last }]));
+  const all = new Map([...named, ...piece]);
+  return new Map([...all].sort(([a], [b]) => (a < b ? -1 : 1)));
+}
+
 /** Requests for all of it, each of which reaches over so many counters at most.
  *  @param {Piece} due
  *  @returns {Generator<Piece>} */
@@ -116,7 +129,10 @@ export async function firstDifference(here, there, fronts, compared) {
   compared.isSame = false;
   let found;
   try {
-    if (compared.isKnown) found = await differenceIn([...piecesOf(compared.due(...fronts))], here, there, compared);
+    if (compared.isKnown) {
+      const pieces = [...piecesOf(compared.due(...fronts))];
+      found = await differenceIn(pieces, beginningOf(fronts[0]), here, there, compared);
+    }
   } catch (error) {
     if (!(error instanceof Refused) || error.number !== REFUSALS["bad-request"]) throw error;
     compared.isKnown = false;
@@ -127,19 +143,20 @@ export async function firstDifference(here, there, fronts, compared) {
 }
 
 /** @param {Piece[]} pieces
+ *  @param {Front} beginning of the generation
  *  @param {Chains} here
  *  @param {Chains} there
  *  @param {Compared} compared */
-async function differenceIn(pieces, here, there, compared) {
+async function differenceIn(pieces, beginning, here, there, compared) {
   for (let at = 0; at < pieces.length; at += AT_ONCE) {
-    const some = pieces.slice(at, at + AT_ONCE);
+    const some = pieces.slice(at, at + AT_ONCE).map((piece) => naming(piece, beginning));
     const replies = some.map((piece) => asked(there, piece));
     for (const reply of replies) Promise.resolve(reply).catch(() => {}); // it is thrown where it is awaited
     for (const [index, piece] of some.entries()) {
       const theirs = await replies[index];
       const name = differing(piece, await asked(here, piece), theirs);
-      if (name !== undefined) return narrowed(name, piece, here, there);
-      for (const [same, { last }] of piece) compared.note(same, last);
+      if (name !== undefined) return narrowed(name, piece, beginning, here, there);
+      for (const [same, { after, last }] of piece) if (after < last) compared.note(same, last);
     }
   }
   return undefined;
@@ -148,15 +165,15 @@ async function differenceIn(pieces, here, there, compared) {
 /** The first operation that differs in a piece.
  *  @param {string} name
  *  @param {Piece} piece
+ *  @param {Front} beginning of the generation
  *  @param {Chains} here
  *  @param {Chains} there
  *  @returns {Promise<Difference>} */
-async function narrowed(name, piece, here, there) {
+async function narrowed(name, piece, beginning, here, there) {
   let { after, last } = piece.get(name) ?? { after: 0, last: 0 };
   while (last - after > 1) {
     const middle = Math.floor((after + last) / 2);
-    /** @type {Piece} */
-    const half = new Map([[name, { after, last: middle }]]);
+    const half = naming(new Map([[name, { after, last: middle }]]), beginning);
     const theirs = await asked(there, half);
     if (differing(half, await asked(here, half), theirs) === undefined) after = middle;
     else last = middle;

@@ -7,7 +7,7 @@
    which they were made. So copies of one store make the same of what they have in common, and the hub
    has it once. What each has edited since stays its own. */
 
-import { Refused } from "./errors.mjs";
+import { Away, Refused } from "./errors.mjs";
 import { isArray, parse, print } from "./json.mjs";
 import { MOST } from "./limits.mjs";
 import { nameOf } from "./names.mjs";
@@ -74,11 +74,16 @@ export class UnknownGeneration extends Error {
 /** The generation of a log, by its front.
  *  @param {Iterable<[string, number]>} front */
 export function generationOf(front) {
-  for (const [name] of front) {
-    const generation = MAKER.exec(name)?.[1];
-    if (generation !== undefined) return generation;
-  }
-  return FIRST;
+  const [maker] = beginningOf(front);
+  return maker ? MAKER.exec(maker[0])?.[1] ?? FIRST : FIRST;
+}
+
+/** What of a front names the generation: of the first one nothing.
+ *  @param {Iterable<[string, number]>} front
+ *  @returns {Front} */
+export function beginningOf(front) {
+  for (const pair of front) if (MAKER.test(pair[0])) return [pair];
+  return [];
 }
 
 /** A replica whose document goes on in another generation.
@@ -114,7 +119,8 @@ function parsedLine(line) {
 }
 
 /** What a hub has of a document that is in another generation than a replica: the steps from that one
- *  on, the log of the last one, and what of the replica's own it had. Throws UnknownGeneration.
+ *  on, the log of the last one, and what of the replica's own it had. Throws UnknownGeneration, and Away
+ *  where the last one is that of the replica.
  *  @param {Answer} answer
  *  @param {Behind} replica
  *  @returns {Promise<{ steps: Step[], log: Operation[], own: Own }>} */
@@ -134,6 +140,8 @@ export async function laterGenerations(answer, replica) {
     const log = await logOf(answer, doc, []);
     const now = generationOf(log.map(([, [counter, name]]) => [name, counter]));
     if (now !== names[names.length - 1]) continue;
+    // What the hub lacks would be lost: nothing is carried over without a step.
+    if (steps.length === 0) throw new Away(`the hub takes ${doc} for renewed, and has the generation that is here`);
     ways.delete(replica);
     return { steps, log, own };
   }

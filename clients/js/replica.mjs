@@ -719,12 +719,14 @@ export class Replica {
    *  the hub lacks made again there. Places by ids of before go on to mean the same elements, watches
    *  go on, and so does `undo` as far as what it takes back is there. Then store all lines, and sync.
    *  @param {string} name That no other replica of the document ever has.
-   *  @param {import("./generations.mjs").Step[]} steps from the generation of this replica on
+   *  @param {import("./generations.mjs").Step[]} steps from the generation of this replica on: one at
+   *    least, else RangeError
    *  @param {Operation[]} log of the last generation
    *  @param {import("./generations.mjs").Own} [own] what the hub had of this one's own operations
    *  @returns {{remade: number, lost: string[]}} */
   renew(name, steps, log, own) {
     if (!isName(name)) throw new TypeError(`${name}: 1 to 32 of a-z, 0-9, -`);
+    if (steps.length === 0) throw new RangeError("it is in that generation");
     const { operations, ids, lost } = carried(this.operations(), steps, own);
     const front = new Map(log.map(([, [counter, replica]]) => [replica, counter]));
     const again = operations.filter(([, id]) => !covers(front, id));

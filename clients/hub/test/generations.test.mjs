@@ -10,7 +10,7 @@ import { Browser, missing } from "../../js/test/chromium.mjs";
 import { fileStore } from "../../js/file_store.mjs";
 import { memoryStore, Provider } from "../../js/provider.mjs";
 import { Conflict, Counter, Refused } from "../../js/wire.mjs";
-import { command, freshFolder, health, startDataHub, startNode } from "./data_hub.mjs";
+import { command, freshFolder, health, killServersOf, startDataHub, startNode } from "./data_hub.mjs";
 import { atEnd, hubWithin, joinLines, kill, pause, PROGRAM, Raw, ROOM, suite, until, within } from "./support.mjs";
 
 const KILLED = fileURLToPath(new URL("killed_hub.mjs", import.meta.url));
@@ -121,6 +121,28 @@ suite("generations", { concurrency: true }, () => {
     ada.replica.insert([...place], "O"); // behind that very element
     await allSynced(ada, bob);
     deepEqual([textOf(ada), textOf(bob)], ["helloO!", "helloO!"]);
+  });
+
+  test("who comes back to a long document of a later generation goes on with it, and brings all over", async () => {
+    const hub = await startDataHub();
+    const [ada, bob] = [await provider(hub.lines, "ada"), await provider(hub.lines, "bob")];
+    ada.replica.put([0, "text"], [..."x".repeat(1200)]); // logs are compared in pieces
+    await allSynced(ada, bob);
+    const generation = await renew(hub.folder);
+    await until("both follow", () => [ada, bob].every(isIn(generation)));
+    for (const [at, one] of [ada, bob].entries()) one.replica.splice([0, "text"], at, 0, [..."y".repeat(700)]);
+    await allSynced(ada, bob);
+    const { name } = ada.replica;
+    ada.goOffline();
+    ada.replica.splice([0, "text"], 0, 0, [..."back"]);
+    ada.goOnline();
+    await allSynced(ada, bob);
+    killServersOf(hub.folder);
+    bob.replica.splice([0, "text"], 0, 0, [..."server "]);
+    await allSynced(ada, bob);
+    for (const one of [ada, bob]) equal(textOf(one).replace(/[xy]+/, "."), "server back.");
+    equal(ada.replica.name, name);
+    for (const one of [ada, bob]) deepEqual([...one.problems.keys()], []);
   });
 
   test("offline ones bring their edits over, also over two generations and a restart", async () => {

@@ -1,7 +1,7 @@
 /* A replica's way into a later generation: which one a log is of, and what of it is made again there. The
    expected operations are written by hand, by the rules of docs/RULES.md and FORMATS. */
 
-import { deepEqual, equal, notEqual, rejects } from "node:assert/strict";
+import { deepEqual, equal, notEqual, rejects, throws } from "node:assert/strict";
 import { test } from "node:test";
 import { carried, composed, generationOf, isOfGeneration, laterGenerations } from "../generations.mjs";
 import { nameOf } from "../names.mjs";
@@ -200,4 +200,16 @@ test("a document that is renewed whenever it is read, over connections that end:
   equal(first.length > 1, true); // what the replica itself knows of it may be more each time
   deepEqual(others, [...new Set(others)]);
   equal(others.length, 11 + 10);
+});
+
+test("a hub that takes a document for renewed and has the replica's own generation loses nothing", async () => {
+  const log = [inList([3, MAKER], [], 1, ["insert", "x"])];
+  const answers = { history: () => ["history", [["1", 4, 1, "t"], ["2-aaaaaaaaaa", 3, 1, "t"]]], page: () => ["page", log] };
+  const answer = async (line) => JSON.stringify(answers[JSON.parse(line)[0]]());
+  const replica = { doc: "d", front: () => [["ada", 7], [MAKER, 3]], operations: () => [LOG[5]], ownBefore: async () => ({}) };
+  await rejects(laterGenerations(answer, replica), /takes d for renewed/);
+  const ada = await openReplica("ada", "d");
+  ada.assign([0, "k"], 1);
+  throws(() => ada.renew("bob", [], []), RangeError);
+  deepEqual(ada.values([0, "k"]), [1]);
 });

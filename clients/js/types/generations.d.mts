@@ -1,6 +1,10 @@
 /** The generation of a log, by its front.
  *  @param {Iterable<[string, number]>} front */
 export function generationOf(front: Iterable<[string, number]>): string;
+/** What of a front names the generation: of the first one nothing.
+ *  @param {Iterable<[string, number]>} front
+ *  @returns {Front} */
+export function beginningOf(front: Iterable<[string, number]>): import("./operations.mjs").Front;
 /** A replica whose document goes on in another generation.
  *  @typedef {object} Behind
  *  @property {string} doc
@@ -14,7 +18,8 @@ export function generationOf(front: Iterable<[string, number]>): string;
  *  @param {string} generation */
 export function isOfGeneration(line: string, generation: string): boolean;
 /** What a hub has of a document that is in another generation than a replica: the steps from that one
- *  on, the log of the last one, and what of the replica's own it had. Throws UnknownGeneration.
+ *  on, the log of the last one, and what of the replica's own it had. Throws UnknownGeneration, and Away
+ *  where the last one is that of the replica.
  *  @param {Answer} answer
  *  @param {Behind} replica
  *  @returns {Promise<{ steps: Step[], log: Operation[], own: Own }>} */

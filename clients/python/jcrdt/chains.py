@@ -3,11 +3,13 @@
     found = first_difference(of_session(one, "d"), of_session(other, "d"), one.front("d"), other.front("d"), Compared())
 
 Of each replica that both have, both are asked for digests of its operations, up to the counter that both have. It is asked in pieces,
-since a server hashes them while others wait.
+since a server hashes them while others wait. A hub knows by a front of which generation a request is: so each piece names the replica
+that began it.
 """
 
 from typing import Any, Awaitable, Callable, Dict, Generator, Iterator, List, NamedTuple, Optional, Sequence, Tuple, TYPE_CHECKING
 
+from .generations import beginning_of
 from .protocol import NUMBERS
 from .replies import Reply, chains_in, good
 from .wire import Chain, Front, Misbehaved, Operation, Refused, pairs_of
@@ -100,18 +102,25 @@ def pieces_of(due: Dict[str, Tuple[int, int]]) -> Iterator[Piece]:
         yield piece
 
 
+def naming(piece: Piece, beginning: Front) -> Piece:
+    """A piece that names the beginning of a generation, too."""
+    return Piece({**beginning, **piece.after}, {**beginning, **piece.last})
+
+
 def comparing(here: Front, there: Front, compared: Compared) -> Comparing:
     """What both sides are asked for, again and again until a replica differs or all is compared."""
-    left = list(pieces_of(compared.due(here, there)))
+    beginning = beginning_of(here)
+    left = [naming(piece, beginning) for piece in pieces_of(compared.due(here, there))]
     while left:
         some, left = left[:AT_ONCE], left[AT_ONCE:]
         ours, theirs = yield some
         for piece, one, other in zip(some, ours, theirs):
             found = differing(piece, one, other)
             if found is not None:
-                return (yield from narrowed(found, piece))
+                return (yield from narrowed(found, piece, beginning))
             for replica, counter in piece.last.items():
-                compared.note(replica, counter)
+                if counter > piece.after[replica]:
+                    compared.note(replica, counter)
     return None
 
 
@@ -124,11 +133,11 @@ def differing(piece: Piece, one: Sequence[Chain], other: Sequence[Chain]) -> Opt
     return next((here[0] for here, there in zip(one, other) if here != there), None)
 
 
-def narrowed(replica: str, piece: Piece) -> Comparing:
+def narrowed(replica: str, piece: Piece, beginning: Front) -> Comparing:
     """The first operation that differs in a piece."""
     after, last = piece.after[replica], piece.last[replica]
     while last - after > 1:
-        half = Piece({replica: after}, {replica: (after + last) // 2})
+        half = naming(Piece({replica: after}, {replica: (after + last) // 2}), beginning)
         [one], [other] = yield [half]
         if differing(half, one, other) is None:
             after = half.last[replica]

@@ -40,6 +40,11 @@ def generation_of(front: Mapping[str, int]) -> str:
     return next((it[1] for it in found if it), FIRST)
 
 
+def beginning_of(front: Front) -> Front:
+    """What of a front names its generation: of the first one nothing."""
+    return {replica: counter for replica, counter in front.items() if MAKER.match(replica)}
+
+
 def generations_in(rest: List[Any]) -> List[Generation]:
     """The generations of a reply to `history`. Raises Misbehaved for what is none."""
     [found] = rest

@@ -19,6 +19,7 @@ import jcrdt
 from jcrdt import Away, Desk, Lost, Refused, Renewed, Writes, aio, generation_of
 from jcrdt import nested
 from jcrdt import replica as replica_module
+from jcrdt.exchange import exchange
 from jcrdt.replica import Replica
 from jcrdt.session import Session
 from jcrdt.store import Store, fresh_name
@@ -301,6 +302,21 @@ def test_a_replica_goes_on_in_a_later_generation(hub: Hub, tmp_path: Path, renew
     with Store(str(tmp_path / "ada"), "d") as store, Replica.stored(store) as me, opened(hub) as client:
         assert (me.name, me.unread, me.sync(client, "d")) == (name, [], (0, 0))
         assert me.plain() == client.plain("d", [0])
+
+
+@needs_library
+def test_a_replica_of_a_long_document_of_a_later_generation_is_compared_in_pieces(hub: Hub) -> None:
+    with opened(hub) as client, Replica("ada-1") as me:
+        client.put("d", [0], {"list": list(range(1_200))})
+        hub.desk.renew("d")
+        me.sync(client, "d")
+        me.put([0, "mine"], list(range(700)))
+        me.sync(client, "d")
+        with opened(hub) as again:
+            me.assign([0, "mine", 1], "again")
+            assert me.sync(again, "d") == (0, 1)
+            assert again.values("d", [0, "mine", 1]) == ["again"]
+            assert exchange(client, again, "d") == (0, [])
 
 
 @needs_library
