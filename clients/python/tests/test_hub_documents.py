@@ -17,9 +17,10 @@ from test_running_copies import Program, state
 
 import jcrdt
 from jcrdt import Away, Desk, Lost, Refused, Renewed, Writes, aio, generation_of
-from jcrdt import nested
+from jcrdt import later, nested
 from jcrdt import replica as replica_module
 from jcrdt.exchange import exchange
+from jcrdt.generations import move_from
 from jcrdt.replica import Replica
 from jcrdt.session import Session
 from jcrdt.store import Store, fresh_name
@@ -456,6 +457,40 @@ def test_a_new_name_in_a_document_that_is_renewed_meanwhile(hub: Hub, tmp_path: 
             assert me.renew(fresh_name("ada"), client, "d") == (1, [])
             me.sync(client, "d")
         assert sorted(client.plain("d", [0, "list"])) == ["base", "newer", "of the backup"]
+
+
+@needs_library
+def test_a_document_that_is_renewed_whenever_it_is_read_is_read_on(hub: Hub, monkeypatch: pytest.MonkeyPatch) -> None:
+    """Each step between generations is read once, and what others stored in one, too."""
+    asked: List[str] = []
+    read, renewals = Session.operations, iter(range(3))
+
+    def operations(it: Session, document: str, *front: Any) -> Iterator[Any]:
+        asked.append(document)
+        if document == "d" and next(renewals, None) is not None:
+            hub.desk.renew("d")
+        yield from read(it, document, *front)
+
+    def moved(document: str, generation: str) -> Any:
+        asked.append(f"map {generation}")
+        return move_from(document, generation)
+
+    with opened(hub) as client, Replica("ada-1") as me:
+        client.put("d", [0], {"list": ["one"], "k": 1})
+        me.sync(client, "d")
+        me.assign([0, "k"], 2)
+        client.append("d", [0, "list"], "two")
+        generations = ["1", hub.desk.renew("d")]
+        monkeypatch.setattr(Session, "operations", operations)
+        monkeypatch.setattr(later, "move_from", moved)
+        assert me.renew(fresh_name("ada"), client, "d") == (1, [])
+        monkeypatch.undo()
+        me.sync(client, "d")
+        assert me.plain() == client.plain("d", [0]) == {"list": ["one", "two"], "k": 2}
+    assert asked.count("d") == 4
+    first, *past = (it for it in asked if it != "d")
+    assert first == "d/1", "what of it is its own"
+    assert {"d/1", "map 1", f"map {generations[1]}"} <= set(past) and len(past) == len(set(past)) == 8
 
 
 class Rounds:
