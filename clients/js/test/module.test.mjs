@@ -159,6 +159,40 @@ test("an exhausted stack costs the call that met it, and no other", async (conte
   ok(done > 10 && refused + broken > 100);
 });
 
+/** A replica in a memory of the module's own: what puts a line there, what asks it, and what reads the
+ *  answer.
+ *  @param {WebAssembly.Module} module */
+function rawReplica(module) {
+  const { memory, malloc, jcrdt_open, jcrdt_ask } = /** @type {any} */ (new WebAssembly.Instance(module).exports);
+  const bytes = (/** @type {bigint} */ at, /** @type {number} */ size) => new Uint8Array(memory.buffer, Number(at), size);
+  const ROOM = 4096;
+  const [handle, fault, line, out] = [64, 64, ROOM, ROOM].map((size) => malloc(BigInt(size)));
+  bytes(handle, 64).fill(0);
+  const put = (/** @type {string} */ text) =>
+    BigInt(new TextEncoder().encodeInto(text, bytes(line, ROOM)).written ?? 0);
+  equal(jcrdt_open(handle, line, put("ada"), line, 0n, fault), 0n);
+  return {
+    put,
+    ask: (/** @type {bigint} */ length) => jcrdt_ask(handle, line, length, out, BigInt(ROOM)),
+    answer: (/** @type {bigint} */ length) => new TextDecoder().decode(bytes(out, Number(length))),
+  };
+}
+
+test("a stack that ends while a line is read leaves the replica as it was", async () => {
+  const module = await WebAssembly.compile(readFileSync(MODULE));
+  const line = `["deliver",${"[".repeat(100)}${"]".repeat(100)}]`;
+  let stopped = 0;
+  let replica = rawReplica(module);
+  let length = replica.put(line);
+  nearTheEnd(() => replica.ask(length), (error) => {
+    if (error) stopped++;
+    equal(replica.answer(replica.ask(replica.put('["front"]'))), '["front",[]]\n');
+    replica = rawReplica(module); // what stops within keeps a part of the module's own stack
+    length = replica.put(line);
+  });
+  ok(stopped > 100);
+});
+
 test("what stops within changed nothing, and what is logged is there again", async () => {
   const module = await WebAssembly.compile(readFileSync(MODULE));
   /** @type {import("../jcrdt.mjs").Engine | undefined} */

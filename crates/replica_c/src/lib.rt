@@ -3,7 +3,9 @@
 #![tactic(auto)]
 
 ghost use Rattle.std.specs.Prelude.{◌≡◌, ◌⊎◌, ◌++◌, None, Some, Bool, IfOk, IfErr, length, take};
-ghost use Rattle.std.specs.Prelude.{drop};
+ghost use Rattle.std.specs.Prelude.{drop, ℕ, List};
+ghost use Rattle.json_scalar.specs.Refusal.{UnlessMemory};
+ghost use Rattle.replica_c.specs.Asking.{ask_of};
 ghost use Rattle.replica_c.specs.Calls.{CallsAsk, GivesAgain, put_into, told_into, told_length};
 ghost use Rattle.replica_c.specs.Opening.{CallsOpen, OpensNone};
 ghost use Rattle.replica_c.specs.Serving.{TellsLine};
@@ -17,12 +19,14 @@ mod open;
 mod place;
 mod read;
 
+use ask::Ask;
 pub use fault::Fault;
 use fault::fault_of;
 pub use handle::Handle;
 use json_scalar::Refusal;
 use loose::LooseBox;
 use open::{OpenReplica, Unopened};
+use read::read_ask;
 use replica_core::Misfit;
 use std::alloc::Global;
 use std::mem;
@@ -65,10 +69,13 @@ pub extern "C" fn jcrdt_ask(
 ) -> usize
     ensures answers { CallsAsk replica.old.value line.now out.old result replica.new.value out.new }
 {
+    // The line is read while the handle has its replica: that needs most of the stack, and where there
+    // is none left the replica is whole.
+    let asked = read_ask(alloc, line);
     match mem::replace(replica, Handle::closed()).into_parts(alloc) {
         Some(parts) => {
             let mut kept = parts.into_box();
-            let count = asked(&mut kept, line, out);
+            let count = answered(&mut kept, asked, out);
             *replica = Handle::of(LooseBox::of(kept));
             count
         }
@@ -140,13 +147,14 @@ fn opened(alloc: Global, name: &[u8], operations: &[u8]) -> Result<Box<OpenRepli
     }
 }
 
-fn asked(kept: &mut OpenReplica, line: &[u8], out: &mut [u8]) -> usize
+fn answered(kept: &mut OpenReplica, asked: Result<Ask, Refusal>, out: &mut [u8]) -> usize
     ensures { (told : Bool)
-        × TellsLine kept.old.replica line.now told kept.new.replica kept.new.text.items
+        × ((line : List ℕ) → UnlessMemory asked (ask_of line)
+        → TellsLine kept.old.replica line told kept.new.replica kept.new.text.items)
         × (result ≡ told_length told kept.new.text.items)
         × (out.new ≡ told_into told kept.new.text.items out.old) }
 {
-    if kept.ask(line) {
+    if kept.answer(asked) {
         give(kept.text.as_slice(), out)
     } else {
         0

@@ -14,13 +14,15 @@ ghost use Rattle.crdt_rules.specs.Log.{IsGood};
 ghost use Rattle.doc_rules.specs.Answers.{MayAnswer};
 ghost use Rattle.doc_rules.specs.Events.{Event};
 ghost use Rattle.doc_rules.specs.Replica.{find_id};
+ghost use Rattle.json_scalar.specs.Refusal.{UnlessMemory};
 ghost use Rattle.replica_core.specs.Misfits.{IsMisfitOf};
+ghost use Rattle.replica_c.specs.Asking.{ask_of};
 ghost use Rattle.replica_c.specs.Serving.{TellsLine, IsTold, no_counts, op_line, own_after, own_by, own_of};
 ghost use Rattle.replica_c.specs.Stored.{AreWritten, IsUnfit, IsUnopened, IsUnread, OpensAs};
 ghost use Rattle.replica_c.specs.declared.ask.Ask.TheVariants.{Act};
 
 use crate::ask::Ask;
-use crate::read::{read_ask, read_operation};
+use crate::read::read_operation;
 use doc_api::{Command, Counts, Place, Query, Reply};
 use json_scalar::Refusal;
 use json_text::{AsJson, JsonText};
@@ -147,11 +149,13 @@ impl OpenReplica {
         }
     }
 
-    /// Answers a line, and keeps the text of the answer. `false` if memory lacked for that text.
-    pub(crate) fn ask(&mut self, line: &[u8]) -> bool
-        ensures { TellsLine self.old.replica line.now result self.new.replica self.new.text.items }
+    /// Answers what a line asks, and keeps the text of the answer. `false` if memory lacked for that
+    /// text.
+    pub(crate) fn answer(&mut self, asked: Result<Ask, Refusal>) -> bool
+        ensures { (line : List ℕ) → UnlessMemory asked (ask_of line)
+            → TellsLine self.old.replica line result self.new.replica self.new.text.items }
     {
-        match read_ask(self.alloc, line) {
+        match asked {
             Ok(Ask::Act(command)) => self.act(command),
             Ok(Ask::Read(query)) => self.look(query),
             Err(cause) => self.tell(Reply::Refused(cause)),
