@@ -34,6 +34,6 @@ export type Read = import("./followers.mjs").Read;
  */
 export type Found = {
     index: number;
-    key: string;
+    key: number;
     id: [counter: number, replica: string];
 };
