@@ -25,10 +25,11 @@ const [FEW, PART] = [8, 1 / 32];
 const EMPTY_LIST = Object.freeze([]);
 const EMPTY_MAP = Object.freeze({});
 
-/** Whether the line of an operation assigns or inserts a scalar, as it is seen at the end of it.
+/** Whether the line of an operation assigns or inserts a scalar, or deletes, as it is seen at the end
+ *  of it: most lines end with a text.
  *  @param {string} line */
-const isOfScalar = (line) =>
-  !line.endsWith("[]]]") && !line.endsWith("{}]]") && !line.includes('["add",');
+const isOfScalar = (line) => line.endsWith('"]]') ||
+  (!line.endsWith("[]]]") && !line.endsWith("{}]]") && !line.includes('["add",'));
 
 /** @implements {Source} */
 export class Mirror {
@@ -61,10 +62,11 @@ export class Mirror {
 
   /** An id as a number: a map of these is made in a tenth of the time that one of texts takes.
    *  @param {Id} id */
-  #keyOf([counter, replica]) {
+  #keyOf(id) {
+    const replica = id[1];
     let base = this.#bases.get(replica);
     if (base === undefined) this.#bases.set(replica, (base = this.#bases.size * (MOST.log + 1)));
-    return base + counter;
+    return base + id[0];
   }
 
   /** How many elements come up to this one, itself included. 0 if it isn't in the list.
@@ -108,7 +110,7 @@ export class Mirror {
   #areOfScalars(lines) {
     const [path] = writtenOf([...this.#place, 0]);
     const here = `${print(path)},`;
-    return lines.every((line) => (line.includes(here) && isOfScalar(line)) || this.#isOfScalar(parse(line)));
+    return lines.every((line) => (isOfScalar(line) && line.includes(here)) || this.#isOfScalar(parse(line)));
   }
 
   /** Whether an operation leaves elements of the list with scalars alone.
@@ -158,7 +160,9 @@ export class Mirror {
     if (items.length === 0) return all;
     const shown = this.#isFlat ? [] :
       this.#read("show", cursor).find((/** @type {any[]} */ [kind]) => kind === "list")[1];
-    for (const [at, [id, values]] of items.entries()) {
+    for (let at = 0; at < items.length; at++) { // by indices: of a long list that takes a third
+      const id = items[at][0];
+      const values = items[at][1];
       // A map or list may be the last value only where it is shown.
       const isPlain = this.#isFlat
         || (values.length > 0 && shown[at].every((/** @type {any[]} */ [kind]) => kind === "val"));

@@ -109,7 +109,16 @@ export function checkShape(op) {
 // ---- Operations that came in a reply
 
 const START = '["op",[';
+const BETWEEN = `,${START}`;
 const ID = /^\["op",\[(\d{1,6}),"([a-z0-9-]{1,32})"\],/;
+
+/** The id in an operation's text, if that is written as a server writes it.
+ *  @param {string} text
+ *  @returns {Id | undefined} */
+function idIn(text) {
+  const [, counter, name] = ID.exec(text) ?? [];
+  return isCounter(Number(counter)) ? [Number(counter), name] : undefined;
+}
 
 /** The operations of a reply `[WORD,[OPERATION,..]]`. Where it is written as a server writes it, they
  *  are known by their texts, and aren't read before they are asked for: reading them takes several
@@ -144,23 +153,35 @@ export class Page {
     return this.#operations;
   }
 
-  /** Cuts a reply into the texts of its operations, and notes their ids. A quotation mark within a
-   *  string has a backslash before it: so where `,["op",[` is, one begins.
+  /** Cuts a reply into the texts of its operations, and notes the last id of each replica. A quotation
+   *  mark within a string has a backslash before it: so where `,["op",[` is, one begins. Of operations
+   *  of one replica behind each other only the first and the last id are read.
    *  @param {string} reply */
   #textsIn(reply) {
     const from = /^\["[a-z]+",\[/.exec(reply)?.[0].length;
     if (from === undefined || !reply.endsWith("]]")) return undefined;
     const texts = [];
-    for (let [at, end] = [from, reply.length - 2]; at < end; ) {
-      const next = reply.indexOf(`,${START}`, at);
+    let [before, named, width] = ["", "", 0];
+    for (let [at, end] = [from, reply.length - 2]; at < end; at += before.length + 1) {
+      const next = reply.indexOf(BETWEEN, at);
       const text = reply.slice(at, next < 0 ? end : next);
-      const [, counter, name] = ID.exec(text) ?? [];
-      if (!isCounter(Number(counter))) return undefined;
-      this.#note([Number(counter), name]);
+      if (named === "" || !text.startsWith(named, width)) {
+        const id = idIn(text);
+        if (!id || (before !== "" && !this.#noteIn(before))) return undefined;
+        [named, width] = [`,"${id[1]}"],`, START.length + String(id[0]).length];
+      }
       texts.push(text);
-      at += text.length + 1;
+      before = text;
     }
-    return texts;
+    return before === "" || this.#noteIn(before) ? texts : undefined;
+  }
+
+  /** Notes the id of an operation's text. Returns whether it has one.
+   *  @param {string} text */
+  #noteIn(text) {
+    const id = idIn(text);
+    if (id) this.#note(id);
+    return id !== undefined;
   }
 
   /** @param {Id} id */
