@@ -15,12 +15,16 @@ import { endOf, placeOf, writtenOf } from "./places.mjs";
 /** @typedef {import("./events.mjs").Source} Source */
 /** @typedef {import("./events.mjs").Splice} Splice */
 /** @typedef {import("./followers.mjs").Read} Read */
+/** @typedef {import("./followers.mjs").ReadText} ReadText */
 
 /** @typedef {{index: number, key: number, id: Id}} Found A changed element, and how many are before
  *    it. */
 
 /** Fewer changes than this, and this part of the list, are looked for one by one. */
 const [FEW, PART] = [8, 1 / 32];
+const ITEMS = '["items",[';
+/** An element with one text, in a reply to `items`. A longer text would keep all of the reply. */
+const ELEMENT = /\[\[(\d+),"([a-z0-9-]+)"\],\["((?:[^"\\]|\\.){0,12})"\]\](?:,|\]\]$)/y;
 /** @type {any} */
 const EMPTY_LIST = Object.freeze([]);
 const EMPTY_MAP = Object.freeze({});
@@ -46,13 +50,16 @@ export class Mirror {
   #isAll = false; // whether any may have
   #isFlat = false; // whether all of them have scalars alone
   #read;
+  #readText;
   #place;
 
   /** Throws Refused for a head.
    *  @param {Read} read
-   *  @param {Cursor} place */
-  constructor(read, place) {
+   *  @param {Cursor} place
+   *  @param {ReadText} [readText] */
+  constructor(read, place, readText = () => undefined) {
     this.#read = read;
+    this.#readText = readText;
     this.#place = place;
     this.#values = this.#all();
     this.#keys = [...this.#values.keys()];
@@ -154,8 +161,11 @@ export class Mirror {
    *  @returns {Map<number, any>} */
   #all() {
     const cursor = [writtenOf(this.#place)];
+    const written = this.#isFlat ? this.#readText("items", cursor) : undefined;
+    const texts = written && this.#textsIn(written);
+    if (texts) return texts;
     /** @type {[Id, any[]][]} */
-    const items = this.#read("items", cursor);
+    const items = written?.startsWith(ITEMS) ? parse(written)[1] : this.#read("items", cursor);
     const all = new Map();
     if (items.length === 0) return all;
     const shown = this.#isFlat ? [] :
@@ -169,6 +179,23 @@ export class Mirror {
       all.set(this.#keyOf(id), isPlain ? values[values.length - 1] : this.#valueOf(id));
     }
     return all;
+  }
+
+  /** The elements of a reply to `items`, where each of them has one short text: so most of what reading
+   *  makes isn't made.
+   *  @param {string} written
+   *  @returns {Map<number, string> | undefined} */
+  #textsIn(written) {
+    if (!written.startsWith(ITEMS)) return undefined;
+    const all = new Map();
+    ELEMENT.lastIndex = ITEMS.length;
+    for (let found; (found = ELEMENT.exec(written)); ) {
+      const text = found[3];
+      const key = this.#keyOf([Number(found[1]), found[2]]);
+      all.set(key, text.includes("\\") ? JSON.parse(`"${text}"`) : text);
+      if (ELEMENT.lastIndex === written.length) return all;
+    }
+    return undefined;
   }
 
   /** @param {Id} id */
