@@ -112,14 +112,6 @@ const START = '["op",[';
 const BETWEEN = `,${START}`;
 const ID = /^\["op",\[(\d{1,6}),"([a-z0-9-]{1,32})"\],/;
 
-/** The id in an operation's text, if that is written as a server writes it.
- *  @param {string} text
- *  @returns {Id | undefined} */
-function idIn(text) {
-  const [, counter, name] = ID.exec(text) ?? [];
-  return isCounter(Number(counter)) ? [Number(counter), name] : undefined;
-}
-
 /** The operations of a reply `[WORD,[OPERATION,..]]`. Where it is written as a server writes it, they
  *  are known by their texts, and aren't read before they are asked for: reading them takes several
  *  times as long. */
@@ -161,27 +153,29 @@ export class Page {
     const from = /^\["[a-z]+",\[/.exec(reply)?.[0].length;
     if (from === undefined || !reply.endsWith("]]")) return undefined;
     const texts = [];
-    let [before, named, width] = ["", "", 0];
+    let [first, before, named, width] = ["", "", "", 0];
     for (let [at, end] = [from, reply.length - 2]; at < end; at += before.length + 1) {
       const next = reply.indexOf(BETWEEN, at);
       const text = reply.slice(at, next < 0 ? end : next);
       if (named === "" || !text.startsWith(named, width)) {
-        const id = idIn(text);
-        if (!id || (before !== "" && !this.#noteIn(before))) return undefined;
-        [named, width] = [`,"${id[1]}"],`, START.length + String(id[0]).length];
+        const id = this.#noteIn(text);
+        if (!id || (before !== first && !this.#noteIn(before))) return undefined;
+        [first, named, width] = [text, `,"${id[1]}"],`, START.length + String(id[0]).length];
       }
       texts.push(text);
       before = text;
     }
-    return before === "" || this.#noteIn(before) ? texts : undefined;
+    return before === first || this.#noteIn(before) ? texts : undefined;
   }
 
-  /** Notes the id of an operation's text. Returns whether it has one.
-   *  @param {string} text */
+  /** Notes the id of an operation's text. Returns it, if it is written as a server writes it.
+   *  @param {string} text
+   *  @returns {Id | undefined} */
   #noteIn(text) {
-    const id = idIn(text);
-    if (id) this.#note(id);
-    return id !== undefined;
+    const [, counter, name] = ID.exec(text) ?? [];
+    if (!isCounter(Number(counter))) return undefined;
+    this.#note([Number(counter), name]);
+    return [Number(counter), name];
   }
 
   /** @param {Id} id */
