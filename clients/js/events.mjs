@@ -43,19 +43,27 @@ import { endOf, isPrefix, textsOf } from "./places.mjs";
  *  @property {number} length Of the list, as the splices made it.
  *  @property {Changed} changed */
 
-/** An operation that was logged. What is known by its line alone is read once it is asked for. */
+/** Operations that were logged. What is known by its line alone is read once it is asked for. */
 class Logged {
-  #op;
+  #ops;
 
-  /** @param {string} line
-   *  @param {Operation} [op] */
-  constructor(line, op) {
-    this.line = line;
-    this.#op = op;
+  /** @param {string[]} lines
+   *  @param {Operation[]} [ops] */
+  constructor(lines, ops = []) {
+    this.lines = lines;
+    this.#ops = ops;
   }
 
-  /** @returns {Operation} */
-  get op() { return (this.#op ??= /** @type {Operation} */ (parse(this.line))); }
+  /** @param {number} at
+   *  @returns {Operation} */
+  #op(at) { return (this.#ops[at] ??= /** @type {Operation} */ (parse(this.lines[at]))); }
+
+  /** @returns {Operation[]} */
+  get ops() { return this.lines.map((_, at) => this.#op(at)); }
+
+  /** Whether one of them is such. Those behind it aren't read.
+   *  @param {(op: Operation) => boolean} isSuch */
+  some(isSuch) { return this.lines.some((_, at) => isSuch(this.#op(at))); }
 }
 
 export class Events {
@@ -128,20 +136,20 @@ export class Events {
    *  @param {Why} why */
   begin(lines, why) {
     for (const { source } of this.#watches) source.renew?.(lines);
-    this.#log(lines.map((line) => new Logged(line)), why);
+    this.#log(new Logged(lines), why);
   }
 
   /** @param {string} line
    *  @param {Operation} op
    *  @param {Why} why */
-  log(line, op, why) { this.#log([new Logged(line, op)], why); }
+  log(line, op, why) { this.#log(new Logged([line], [op]), why); }
 
-  /** @param {Logged[]} logged
+  /** @param {Logged} logged
    *  @param {Why} why */
   #log(logged, why) {
     if (why !== this.#why) this.#close(false);
     this.#why = why;
-    for (const it of logged) this.#logged.push(it);
+    this.#logged.push(logged);
   }
 
   /** Makes an event of what was logged. */
@@ -159,7 +167,7 @@ export class Events {
    *  @param {Why} why
    *  @param {Logged[]} logged */
   #look(watch, why, logged) {
-    if (!logged.some(({ op }) => concerns(watch, op, textsOf(endOf(op))))) return;
+    if (!logged.some((it) => it.some((op) => concerns(watch, op, textsOf(endOf(op)))))) return;
     this.#queueSplices(watch, watch.source.take(), why);
   }
 
@@ -236,9 +244,9 @@ function eventOf(why, logged) {
   let changes;
   return {
     why,
-    lines: logged.map(({ line }) => line),
-    get ids() { return logged.map(({ op }) => op[1]); },
-    get changes() { return (changes ??= logged.map(({ op }) => changeOf(op))); },
+    lines: logged.length === 1 ? logged[0].lines : logged.flatMap(({ lines }) => lines),
+    get ids() { return logged.flatMap(({ ops }) => ops.map((op) => op[1])); },
+    get changes() { return (changes ??= logged.flatMap(({ ops }) => ops.map(changeOf))); },
   };
 }
 

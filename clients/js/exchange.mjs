@@ -564,7 +564,9 @@ export class Exchange {
    *  @returns {Taken} */
   #takePages(pages) {
     const count = pages.reduce((sum, { length }) => sum + length, 0);
-    const texts = pages.flatMap((page) => page.texts ?? []);
+    /** @type {string[]} */
+    const texts = [];
+    for (const page of pages) for (const text of page.texts ?? []) texts.push(text);
     if (texts.length === count && this.#core.begin(texts)) return { taken: count, refused: [] };
     return this.#core.take(pages.flatMap(({ operations }) => operations));
   }

@@ -11,6 +11,8 @@ import { endOf, isPrefix, placeOf, textsOf } from "./places.mjs";
 /** @typedef {import("./operations.mjs").Operation} Operation */
 /** @typedef {import("./jcrdt.mjs").Engine} Engine */
 /** @typedef {(word: string, ...items: any[]) => any} Read Asks; returns what is behind the word. */
+/** @typedef {(word: string, ...items: any[]) => string | undefined} ReadText Asks; returns the line of
+ *    the reply, where it can be had unread. */
 
 /** Reads of an engine.
  *  @param {Engine} engine

@@ -24,6 +24,8 @@ import { isSimple, parse, print } from "./json.mjs";
  *    written form, [PATH,KEY], in place of 0.
  *  @property {(request: any[]) => Answer} ask Throws Broken where the engine stopped within: then
  *    each later call does.
+ *  @property {(request: any[]) => string | undefined} [text] The line of the reply to a request that
+ *    makes no operation, unread, where the engine has it so. Throws as `ask`.
  *  @property {() => void} free Gives up its memory. It isn't asked any more.
  *  @property {boolean} [isBroken] */
 
@@ -391,12 +393,26 @@ class Proved {
     if (this.#handle === 0n) throw new TypeError("this replica was freed");
     if (isDeeper(request, DEPTH)) return { reply: new Refused(1).reply };
     const line = written(request);
-    return this.#heap.run(() => this.#answer(line));
+    return this.#heap.run(() => {
+      const [first, second] = this.#linesFor(line);
+      const reply = parse(first);
+      return second === "" ? { reply } : { reply, line: second };
+    });
   }
 
-  /** @param {string} line
-   *  @returns {Answer} */
-  #answer(line) {
+  /** Answers a request that makes no operation by the line of its reply.
+   *  @param {any[]} request
+   *  @returns {string} */
+  text(request) {
+    if (this.#handle === 0n) throw new TypeError("this replica was freed");
+    const line = written(request);
+    return this.#heap.run(() => this.#linesFor(line)[0]);
+  }
+
+  /** The reply's line, and the operation's where it made one.
+   *  @param {string} line
+   *  @returns {[string, string]} */
+  #linesFor(line) {
     const { exports } = this.#heap;
     const handle = this.#handle;
     const length = BigInt(this.#heap.put(line));
@@ -405,8 +421,7 @@ class Proved {
       (out, room) => exports.jcrdt_again(handle, out, room));
     const end = text.indexOf("\n");
     if (end < 0) throw new Refused(22);
-    const reply = parse(text.slice(0, end));
-    return end + 1 < text.length ? { reply, line: text.slice(end + 1, -1) } : { reply };
+    return [text.slice(0, end), text.slice(end + 1, -1)];
   }
 
   /** Gives up its memory. It isn't asked any more. */

@@ -75,9 +75,16 @@ export class LastingEngine {
    *  the next call finds one that was opened again. What was held is gone then.
    *  @param {any[]} request
    *  @returns {Answer} */
-  ask(request) {
+  ask(request) { return this.#unbroken.ask(request); }
+
+  /** The line of a reply, unread; `undefined` where the engine reads it. Throws as `ask`.
+   *  @param {any[]} request One that makes no operation.
+   *  @returns {string | undefined} */
+  text(request) { return this.#unbroken.text?.(request); }
+
+  get #unbroken() {
     if (this.#engine.isBroken) this.#engine = this.#open(this.#name, this.#lines.all());
-    return this.#engine.ask(request);
+    return this.#engine;
   }
 
   /** Is to be called with each operation that was logged.

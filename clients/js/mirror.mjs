@@ -5,6 +5,7 @@
 
 import { Refused, refusalOf } from "./errors.mjs";
 import { isArray, isMap, parse, print } from "./json.mjs";
+import { MOST } from "./limits.mjs";
 import { isId } from "./operations.mjs";
 import { endOf, placeOf, writtenOf } from "./places.mjs";
 
@@ -14,45 +15,51 @@ import { endOf, placeOf, writtenOf } from "./places.mjs";
 /** @typedef {import("./events.mjs").Source} Source */
 /** @typedef {import("./events.mjs").Splice} Splice */
 /** @typedef {import("./followers.mjs").Read} Read */
+/** @typedef {import("./followers.mjs").ReadText} ReadText */
 
-/** @typedef {{index: number, key: string, id: Id}} Found A changed element, and how many are before
+/** @typedef {{index: number, key: number, id: Id}} Found A changed element, and how many are before
  *    it. */
 
 /** Fewer changes than this, and this part of the list, are looked for one by one. */
 const [FEW, PART] = [8, 1 / 32];
+const ITEMS = '["items",[';
+/** An element with one text, in a reply to `items`. A longer text would keep all of the reply. */
+const ELEMENT = /\[\[(\d+),"([a-z0-9-]+)"\],\["((?:[^"\\]|\\.){0,12})"\]\](?:,|\]\]$)/y;
 /** @type {any} */
 const EMPTY_LIST = Object.freeze([]);
 const EMPTY_MAP = Object.freeze({});
 
-/** The text of an id.
- *  @param {Id} id */
-const keyOf = ([counter, replica]) => `${counter},${replica}`;
-
-/** Whether the line of an operation assigns or inserts a scalar, as it is seen at the end of it.
+/** Whether the line of an operation assigns or inserts a scalar, or deletes, as it is seen at the end
+ *  of it: most lines end with a text.
  *  @param {string} line */
-const isOfScalar = (line) =>
-  !line.endsWith("[]]]") && !line.endsWith("{}]]") && !line.includes('["add",');
+const isOfScalar = (line) => line.endsWith('"]]') ||
+  (!line.endsWith("[]]]") && !line.endsWith("{}]]") && !line.includes('["add",'));
 
 /** @implements {Source} */
 export class Mirror {
-  /** @type {string[]} Of the elements, in order: their ids as texts. */
+  /** @type {Map<string, number>} Of each replica: what its counters are added to, in keys. */
+  #bases = new Map();
+  /** @type {number[]} Of the elements, in order: their ids as numbers. */
   #keys = [];
-  /** @type {Map<string, any>} Of each element its last value; `undefined` if it has none. */
+  /** @type {Map<number, any>} Of each element its last value; `undefined` if it has none. */
   #values = new Map();
-  /** @type {Map<string, Id>} Those that may have come, gone or changed since. */
+  /** @type {Map<number, Id>} Those that may have come, gone or changed since. */
   #changed = new Map();
-  /** @type {Map<string, string>} The texts of those that were inserted, and not changed, since. */
+  /** @type {Map<number, string>} The texts of those that were inserted, and not changed, since. */
   #fresh = new Map();
   #isAll = false; // whether any may have
   #isFlat = false; // whether all of them have scalars alone
   #read;
+  #readText;
   #place;
 
   /** Throws Refused for a head.
    *  @param {Read} read
-   *  @param {Cursor} place */
-  constructor(read, place) {
+   *  @param {Cursor} place
+   *  @param {ReadText} [readText] */
+  constructor(read, place, readText = () => undefined) {
     this.#read = read;
+    this.#readText = readText;
     this.#place = place;
     this.#values = this.#all();
     this.#keys = [...this.#values.keys()];
@@ -60,17 +67,26 @@ export class Mirror {
 
   get length() { return this.#keys.length; }
 
+  /** An id as a number: a map of these is made in a tenth of the time that one of texts takes.
+   *  @param {Id} id */
+  #keyOf(id) {
+    const replica = id[1];
+    let base = this.#bases.get(replica);
+    if (base === undefined) this.#bases.set(replica, (base = this.#bases.size * (MOST.log + 1)));
+    return base + id[0];
+  }
+
   /** How many elements come up to this one, itself included. 0 if it isn't in the list.
    *  @param {Id} id */
   indexOf(id) {
     this.take();
-    return this.has(id) ? this.#keys.indexOf(keyOf(id)) + 1 : 0;
+    return this.has(id) ? this.#keys.indexOf(this.#keyOf(id)) + 1 : 0;
   }
 
   end() {}
 
   /** @param {Id} id */
-  has(id) { return this.#values.has(keyOf(id)); }
+  has(id) { return this.#values.has(this.#keyOf(id)); }
 
   /** Notes an operation that was logged: one at, under or above the place.
    *  @param {Operation} op */
@@ -81,8 +97,8 @@ export class Mirror {
     if (end.length <= length && (word === "assign" || word === "delete")) this.renew();
     if (this.#isAll || !isId(id)) return;
     const isDeeper = end.length > length + 1;
-    if (word === "insert" && !isDeeper && typeof value === "string") this.#fresh.set(keyOf(id), value);
-    else this.#fresh.delete(keyOf(id));
+    if (word === "insert" && !isDeeper && typeof value === "string") this.#fresh.set(this.#keyOf(id), value);
+    else this.#fresh.delete(this.#keyOf(id));
     this.#noteElement(id, isDeeper);
   }
 
@@ -101,7 +117,7 @@ export class Mirror {
   #areOfScalars(lines) {
     const [path] = writtenOf([...this.#place, 0]);
     const here = `${print(path)},`;
-    return lines.every((line) => (line.includes(here) && isOfScalar(line)) || this.#isOfScalar(parse(line)));
+    return lines.every((line) => (isOfScalar(line) && line.includes(here)) || this.#isOfScalar(parse(line)));
   }
 
   /** Whether an operation leaves elements of the list with scalars alone.
@@ -117,7 +133,7 @@ export class Mirror {
    *  @param {boolean} isDeeper */
   #noteElement(id, isDeeper) {
     if (isDeeper && this.has(id)) return;
-    this.#changed.set(keyOf(id), id);
+    this.#changed.set(this.#keyOf(id), id);
     if (this.#changed.size > FEW + this.#keys.length * PART) this.renew();
   }
 
@@ -137,32 +153,54 @@ export class Mirror {
     const was = this.#values;
     this.#keys = [...now.keys()];
     this.#values = now;
-    const isSame = (/** @type {string} */ key) => was.get(key) === now.get(key);
+    const isSame = (/** @type {number} */ key) => was.get(key) === now.get(key);
     return difference(before, this.#keys, { was, is: now, isSame, index: 0 }).map(toldOf(now));
   }
 
   /** The last value of each element, as now.
-   *  @returns {Map<string, any>} */
+   *  @returns {Map<number, any>} */
   #all() {
     const cursor = [writtenOf(this.#place)];
+    const written = this.#isFlat ? this.#readText("items", cursor) : undefined;
+    const texts = written && this.#textsIn(written);
+    if (texts) return texts;
     /** @type {[Id, any[]][]} */
-    const items = this.#read("items", cursor);
+    const items = written?.startsWith(ITEMS) ? parse(written)[1] : this.#read("items", cursor);
     const all = new Map();
     if (items.length === 0) return all;
     const shown = this.#isFlat ? [] :
       this.#read("show", cursor).find((/** @type {any[]} */ [kind]) => kind === "list")[1];
-    for (const [at, [id, values]] of items.entries()) {
+    for (let at = 0; at < items.length; at++) { // by indices: of a long list that takes a third
+      const id = items[at][0];
+      const values = items[at][1];
       // A map or list may be the last value only where it is shown.
       const isPlain = this.#isFlat
         || (values.length > 0 && shown[at].every((/** @type {any[]} */ [kind]) => kind === "val"));
-      all.set(keyOf(id), isPlain ? values[values.length - 1] : this.#valueOf(id));
+      all.set(this.#keyOf(id), isPlain ? values[values.length - 1] : this.#valueOf(id));
     }
     return all;
   }
 
+  /** The elements of a reply to `items`, where each of them has one short text: so most of what reading
+   *  makes isn't made.
+   *  @param {string} written
+   *  @returns {Map<number, string> | undefined} */
+  #textsIn(written) {
+    if (!written.startsWith(ITEMS)) return undefined;
+    const all = new Map();
+    ELEMENT.lastIndex = ITEMS.length;
+    for (let found; (found = ELEMENT.exec(written)); ) {
+      const text = found[3];
+      const key = this.#keyOf([Number(found[1]), found[2]]);
+      all.set(key, text.includes("\\") ? JSON.parse(`"${text}"`) : text);
+      if (ELEMENT.lastIndex === written.length) return all;
+    }
+    return undefined;
+  }
+
   /** @param {Id} id */
   #valueOf(id) {
-    const fresh = this.#fresh.get(keyOf(id));
+    const fresh = this.#fresh.get(this.#keyOf(id));
     if (fresh !== undefined) return fresh;
     const value = this.#read("conflicts", [writtenOf([...this.#place, id])]).pop()?.[1];
     return isArray(value) ? EMPTY_LIST : isMap(value) ? EMPTY_MAP : value;
@@ -187,7 +225,7 @@ export class Mirror {
 
   /** Where the changed elements are that are present. The others are as they were: so a request by
    *  index shows by one of them how many of the changed ones are before it.
-   *  @param {string[]} kept The others.
+   *  @param {number[]} kept The others.
    *  @returns {Found[]} */
   #search(kept) {
     let [least, most] = [kept.length, kept.length + this.#changed.size]; // of the list's length
@@ -203,7 +241,7 @@ export class Mirror {
   }
 
   /** Finds those from one index to another one.
-   *  @param {string[]} kept
+   *  @param {number[]} kept
    *  @param {[number, number]} range
    *  @param {[number, number]} counts How many are before each.
    *  @param {Found[]} found */
@@ -212,10 +250,10 @@ export class Mirror {
     const middle = (from + to) >> 1;
     /** @type {Found[]} */
     const run = [];
-    let [at, key] = [middle, ""];
+    let [at, key] = [middle, 0];
     for (; at < to; at++) {
       const id = /** @type {Id} */ (this.#at(at));
-      key = keyOf(id);
+      key = this.#keyOf(id);
       if (!this.#changed.has(key)) break;
       run.push({ index: at, key, id });
     }
@@ -238,9 +276,9 @@ export class Mirror {
 
   /** Makes of what was what is, from the first change to the last one.
    *  @param {number[]} old Where the changed elements were.
-   *  @param {string[]} kept
+   *  @param {number[]} kept
    *  @param {Found[]} found
-   *  @param {Map<string, any>} now The values of these.
+   *  @param {Map<number, any>} now The values of these.
    *  @returns {Splice[]} */
   #splices(old, kept, found, now) {
     const from = Math.min(old[0] ?? Infinity, found[0]?.index ?? Infinity);
@@ -251,8 +289,8 @@ export class Mirror {
     const after = kept.slice(from, kept.length - rest);
     for (const { index, key } of found) after.splice(index - from, 0, key);
     const [was, changed] = [this.#values, this.#changed];
-    const is = { has: (/** @type {string} */ key) => !changed.has(key) || now.has(key) };
-    const isSame = (/** @type {string} */ key) => !changed.has(key) || was.get(key) === now.get(key);
+    const is = { has: (/** @type {number} */ key) => !changed.has(key) || now.has(key) };
+    const isSame = (/** @type {number} */ key) => !changed.has(key) || was.get(key) === now.get(key);
     const splices = difference(before, after, { was, is, isSame, index: from });
     for (const key of changed.keys()) was.delete(key);
     for (const [key, value] of now) was.set(key, value);
@@ -261,21 +299,22 @@ export class Mirror {
   }
 }
 
-/** @param {ReadonlyMap<string, any>} values
+/** @param {ReadonlyMap<number, any>} values
  *  @returns {(splice: Splice) => Splice} */
 const toldOf = (values) => ({ index, remove, insert }) =>
   ({ index, remove, insert: insert.map((key) => values.get(key) ?? null) });
 
 /** The splices, of keys, that make a list of another one of its states.
- *  @param {string[]} before
- *  @param {string[]} after
+ *  @param {number[]} before
+ *  @param {number[]} after
  *  @param {object} states
- *  @param {{has: (key: string) => boolean}} states.was Whether one was present.
- *  @param {{has: (key: string) => boolean}} states.is Whether one is.
- *  @param {(key: string) => boolean} states.isSame Whether its value is the same.
+ *  @param {{has: (key: number) => boolean}} states.was Whether one was present.
+ *  @param {{has: (key: number) => boolean}} states.is Whether one is.
+ *  @param {(key: number) => boolean} states.isSame Whether its value is the same.
  *  @param {number} states.index How many are before these.
  *  @returns {Splice[]} */
 function difference(before, after, { was, is, isSame, index }) {
+  if (before.length === 0) return after.length > 0 ? [{ index, remove: 0, insert: after }] : [];
   /** @type {Splice[]} */
   const found = [];
   let count = index;

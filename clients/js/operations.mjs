@@ -109,6 +109,7 @@ export function checkShape(op) {
 // ---- Operations that came in a reply
 
 const START = '["op",[';
+const BETWEEN = `,${START}`;
 const ID = /^\["op",\[(\d{1,6}),"([a-z0-9-]{1,32})"\],/;
 
 /** The operations of a reply `[WORD,[OPERATION,..]]`. Where it is written as a server writes it, they
@@ -144,23 +145,37 @@ export class Page {
     return this.#operations;
   }
 
-  /** Cuts a reply into the texts of its operations, and notes their ids. A quotation mark within a
-   *  string has a backslash before it: so where `,["op",[` is, one begins.
+  /** Cuts a reply into the texts of its operations, and notes the last id of each replica. A quotation
+   *  mark within a string has a backslash before it: so where `,["op",[` is, one begins. Of operations
+   *  of one replica behind each other only the first and the last id are read.
    *  @param {string} reply */
   #textsIn(reply) {
     const from = /^\["[a-z]+",\[/.exec(reply)?.[0].length;
     if (from === undefined || !reply.endsWith("]]")) return undefined;
     const texts = [];
-    for (let [at, end] = [from, reply.length - 2]; at < end; ) {
-      const next = reply.indexOf(`,${START}`, at);
+    let [first, before, named, width] = ["", "", "", 0];
+    for (let [at, end] = [from, reply.length - 2]; at < end; at += before.length + 1) {
+      const next = reply.indexOf(BETWEEN, at);
       const text = reply.slice(at, next < 0 ? end : next);
-      const [, counter, name] = ID.exec(text) ?? [];
-      if (!isCounter(Number(counter))) return undefined;
-      this.#note([Number(counter), name]);
+      if (named === "" || !text.startsWith(named, width)) {
+        const id = this.#noteIn(text);
+        if (!id || (before !== first && !this.#noteIn(before))) return undefined;
+        [first, named, width] = [text, `,"${id[1]}"],`, START.length + String(id[0]).length];
+      }
       texts.push(text);
-      at += text.length + 1;
+      before = text;
     }
-    return texts;
+    return before === first || this.#noteIn(before) ? texts : undefined;
+  }
+
+  /** Notes the id of an operation's text. Returns it, if it is written as a server writes it.
+   *  @param {string} text
+   *  @returns {Id | undefined} */
+  #noteIn(text) {
+    const [, counter, name] = ID.exec(text) ?? [];
+    if (!isCounter(Number(counter))) return undefined;
+    this.#note([Number(counter), name]);
+    return [Number(counter), name];
   }
 
   /** @param {Id} id */

@@ -226,6 +226,9 @@ export class Replica {
    *  @type {import("./followers.mjs").Read} */
   #read = (word, ...items) => reading(this.#engine)(word, ...items);
 
+  /** @type {import("./followers.mjs").ReadText} */
+  #readText = (word, ...items) => this.#engine.text([word, ...items]);
+
   /** The cursor as the engine takes it.
    *  @param {Cursor} cursor */
   #request(cursor) {
@@ -588,7 +591,7 @@ export class Replica {
    *  @param {Changed} changed */
   watch(cursor, changed) {
     const place = this.place(cursor);
-    const source = new Mirror(this.#read, place); // refuses a head
+    const source = new Mirror(this.#read, place, this.#readText); // refuses a head
     const { length = this.#read("items", [writtenOf(place)]).length } = source;
     return this.#events.watch(place, source, length, changed);
   }
@@ -785,7 +788,7 @@ export class Replica {
    *  @param {Map<string, Id>} ids */
   #watchAgain(old, ids) {
     const place = old.map((step) => (isId(step) ? ids.get(String(step)) ?? step : step));
-    const source = refusalOf(() => new Mirror(this.#read, place));
+    const source = refusalOf(() => new Mirror(this.#read, place, this.#readText));
     if (source instanceof Refused) return undefined;
     const values = this.items(place).map(([id]) =>
       this.conflicts([...place, id]).pop()?.[1] ?? null);

@@ -136,7 +136,38 @@ const BESIDE = [
   ["a counter in an element", (it) => it.add([0, "t", 7], 4)],
   ["a deletion", (it) => it.delete([0, "t", 7])],
   ["a list in a list of the same name", (it) => it.put([0, "other"], { t: [[], {}] })],
+  ["texts that are written with backslashes", (it) => it.splice([0, "t"], 9, 0, ["\n", "\\", '"', '\\"', "\u0001"])],
+  ["texts beyond ASCII", (it) => it.splice([0, "t"], 9, 0, ["é", "語", "😀", "\u2028"])],
+  ["longer texts", (it) => it.splice([0, "t"], 9, 0, ["", "of twelve ch", "of thirteen c", "\n".repeat(13), '"]],[[1,"a"],["b'])],
+  ["other scalars", (it) => it.splice([0, "t"], 9, 0, [5, -1, 2n ** 62n, true, null])],
+  ["elements of two replicas", (it) => it.deliverAll(editedBy("ada-2", it, (ada) => ada.splice([0, "t"], 9, 0, "by ada")))],
+  ["two values in an element", (it) => {
+    const lines = editedBy("ada-2", it, (ada) => ada.assign([0, "t", 7], "a"));
+    it.assign([0, "t", 7], "b");
+    it.deliverAll(lines);
+  }],
+  ["nothing at all", (it) => it.splice([0, "t"], 0, 300, "")],
 ];
+
+/** The lines of what another replica edits in what one has.
+ *  @param {string} name
+ *  @param {Replica} replica
+ *  @param {(other: Replica) => any} edit */
+function editedBy(name, replica, edit) {
+  const other = new Replica(name, "d");
+  other.deliverAll(replica.lines().slice(1));
+  edit(other);
+  return other.lines().slice(1);
+}
+
+/** A list as the calls of a watch make it.
+ *  @param {import("../events.mjs").Splice[][]} calls */
+function madeBy(calls) {
+  /** @type {any[]} */
+  const model = [];
+  for (const splices of calls) for (const it of splices) model.splice(it.index, it.remove, ...it.insert);
+  return model;
+}
 
 test("a watched list is as one that is read, where an empty replica takes all at once", () => {
   for (const [title, engine] of engines) {
@@ -145,19 +176,20 @@ test("a watched list is as one that is read, where an empty replica takes all at
       other.put([0, "t"], [..."x".repeat(300)]);
       change(other);
       const me = new Replica("ada", "d", { engine });
-      /** @type {any[][]} */
-      const calls = [];
+      const now = new Replica("carl", "d");
+      /** @type {any[][][]} */
+      const [calls, single] = [[], []];
       me.watch([0, "t"], (splices) => calls.push(splices));
       me.watch([0, "nowhere"], () => calls.push(["nothing concerns it"]));
+      now.watch([0, "t"], (splices) => single.push(splices));
       me.deliverAll(other.lines().slice(1));
-      const again = Replica.restore(other.lines());
-      const now = new Replica("carl", "d");
-      now.watch([0, "t"], (splices) => calls.push(splices));
-      for (const op of again.operations()) now.deliver(op);
-      const [all, ...one] = calls;
-      const model = [];
-      for (const splices of one) for (const it of splices) model.splice(it.index, it.remove, ...it.insert);
-      deepEqual(all, [{ index: 0, remove: 0, insert: model }], `${title}: ${what}`);
+      for (const op of other.operations()) now.deliver(op);
+      const insert = madeBy(single);
+      deepEqual(calls, [insert.length > 0 ? [{ index: 0, remove: 0, insert }] : []], `${title}: ${what}`);
+      if (insert.length > 0) other.splice([0, "t"], 6, 2, ["new", "and new"]);
+      me.deliverAll([...other.operations(me.front())]);
+      for (const op of other.operations(now.front())) now.deliver(op);
+      deepEqual(madeBy(calls), madeBy(single), `${title}: an edit behind ${what}`);
     }
   }
 });

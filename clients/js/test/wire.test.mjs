@@ -10,6 +10,7 @@ import {
   Away, Conflict, Counter, LineCutter, Lost, Refused, addressParts, checkShape, checkValue, covers,
   errorOf, freshName, frontPairs, isName, parse, pieces, plain, print, settled,
 } from "../index.mjs";
+import { Page } from "../operations.mjs";
 
 test("JSON has exact integers, to and fro", () => {
   const long = '["a",12345678901234567890,"12345678901234567890\\"",{},[-9223372036854775808],1]';
@@ -90,6 +91,27 @@ test("the shape of operations", () => {
   ];
   for (const [op, number] of bad) throws(() => checkShape(op), { number }, print(op));
   checkShape(["op", [1, "p"], [], [path(30), "a"], ["assign", 1]]);
+});
+
+test("a page knows its operations by their texts, and the last one of each replica", () => {
+  /** @param {number | string} counter @param {string} name */
+  const op = (counter, name, value = "x") => `["op",[${counter},"${name}"],[],[[["m",0]],"k"],["assign",${print(value)}]]`;
+  /** @param {string[]} texts */
+  const page = (texts) => new Page(`["ops",[${texts.join(",")}]]`);
+  const runs = [op(8, "ada"), op(9, "ada"), op(10, "ada"), op(11, "bob"), op(12, "ada-2"), op(13, "ada"), op(14, "ada"),
+    op(99_999, "ada-2", ',["op",[1,"cyd"],'), op(100_000, "ada-2")];
+  for (let count = 0; count <= runs.length; count++) {
+    const some = runs.slice(0, count);
+    const { texts, length, last, operations } = page(some);
+    deepEqual([texts, length, operations], [some, count, some.map((it) => parse(it))]);
+    deepEqual(last, new Map(some.map((it) => /** @type {[string, number]} */ ([parse(it)[1][1], parse(it)[1][0]]))));
+  }
+  for (const bad of [op(0, "ada"), op(100_001, "ada"), op(7, "Ada"), op(7.5, "ada")]) {
+    for (const some of [[bad], [op(8, "ada"), bad], [op(8, "bob"), bad], [bad, op(8, "ada")]]) {
+      const { texts, length, last } = page(some);
+      deepEqual([texts, length, [...last.values()]], [undefined, some.length, some.length > 1 ? [8] : []], some.join());
+    }
+  }
 });
 
 test("one error for each kind of failure", () => {

@@ -26,3 +26,8 @@ export type Engine = import("./jcrdt.mjs").Engine;
  * Asks; returns what is behind the word.
  */
 export type Read = (word: string, ...items: any[]) => any;
+/**
+ * Asks; returns the line of
+ *   the reply, where it can be had unread.
+ */
+export type ReadText = (word: string, ...items: any[]) => string | undefined;

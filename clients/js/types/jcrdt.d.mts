@@ -37,6 +37,11 @@ export type Engine = {
      */
     ask: (request: any[]) => Answer;
     /**
+     * The line of the reply to a request that
+     * makes no operation, unread, where the engine has it so. Throws as `ask`.
+     */
+    text?: ((request: any[]) => string | undefined) | undefined;
+    /**
      * Gives up its memory. It isn't asked any more.
      */
     free: () => void;

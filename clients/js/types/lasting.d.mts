@@ -11,6 +11,10 @@ export class LastingEngine implements Engine {
      *  @param {any[]} request
      *  @returns {Answer} */
     ask(request: any[]): Answer;
+    /** The line of a reply, unread; `undefined` where the engine reads it. Throws as `ask`.
+     *  @param {any[]} request One that makes no operation.
+     *  @returns {string | undefined} */
+    text(request: any[]): string | undefined;
     /** Is to be called with each operation that was logged.
      *  @param {string} line */
     logged(line: string): void;

@@ -2,8 +2,9 @@
 export class Mirror implements Source {
     /** Throws Refused for a head.
      *  @param {Read} read
-     *  @param {Cursor} place */
-    constructor(read: Read, place: import("./operations.mjs").Cursor);
+     *  @param {Cursor} place
+     *  @param {ReadText} [readText] */
+    constructor(read: Read, place: import("./operations.mjs").Cursor, readText?: import("./followers.mjs").ReadText | undefined);
     get length(): number;
     /** How many elements come up to this one, itself included. 0 if it isn't in the list.
      *  @param {Id} id */
@@ -28,12 +29,13 @@ export type Operation = import("./operations.mjs").Operation;
 export type Source = import("./events.mjs").Source;
 export type Splice = import("./events.mjs").Splice;
 export type Read = import("./followers.mjs").Read;
+export type ReadText = import("./followers.mjs").ReadText;
 /**
  * A changed element, and how many are before
  *   it.
  */
 export type Found = {
     index: number;
-    key: string;
+    key: number;
     id: [counter: number, replica: string];
 };
