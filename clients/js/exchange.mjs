@@ -1,7 +1,7 @@
 /* The exchange of a replica with servers. */
 
 import { Compared, firstDifference } from "./chains.mjs";
-import { Comparison, copyPlace } from "./copies.mjs";
+import { Comparison, copyPlace, sayingsFirst } from "./copies.mjs";
 import { Away, Refused, refusalOf } from "./errors.mjs";
 import { operationsOf } from "./followers.mjs";
 import { beginningOf, generationOf } from "./generations.mjs";
@@ -602,7 +602,8 @@ export class Exchange {
       this.#noteSame(answer, id);
     });
     if (unsure.length > 0 && (await give(unsure))) return;
-    const lacked = operationsOf(this.#core.read, theirs);
+    const lacking = () => operationsOf(this.#core.read, theirs);
+    const lacked = sayingsFirst(lacking, name, this.#core.formers().size);
     this.#isLogging = false;
     for (const page of pagesToGive(lacked, name, () => this.#isLogging && !this.#isCopy)) {
       // What a server that is followed has logged meanwhile isn't sent to it.

@@ -34,7 +34,7 @@ test("random copies of stores, and kills: each edit is there once, and a name is
   () => runs("copies", 40, 2000));
 
 test("copies of an older package's store, online for moments: each edit is there once", LIMIT,
-  () => runs("moments", 10, 1000, [40, 52, 137, 150]));
+  () => runs("moments", 10, 1000, [40, 52, 182, 204]));
 
 test("a server is killed while it is compared: what others send again is there once", LIMIT,
   () => runs("losses", 10, 1000, [53]));

@@ -383,7 +383,7 @@ both("a store copied while its program sends what it has, in pages: each edit is
 });
 
 const BEFORE = { known: "has sent something before", new: "has a new name", anew: "was opened anew",
-  edited: "was edited since it was opened anew" };
+  edited: "was edited since it was opened anew", both: "was edited since, and the copy was opened anew, too" };
 
 for (const [how, before] of Object.entries(BEFORE)) {
   both(`a copy is killed while it sends, the program ${before}: what came of it is its own`, async (kind) => {
@@ -395,19 +395,21 @@ for (const [how, before] of Object.entries(BEFORE)) {
       if (how === "new") me.provider.replica.assign([0, "list"], []);
       for (const text of how === "new" ? ["base", "one", "two"] : ["one", "two"]) edit(me, text);
       if (how === "anew") me = await anew(me);
-      if (how === "edited") me = await anew(me);
-      if (how === "edited") edit(me, "three");
+      const isEdited = ["edited", "both"].includes(how);
+      if (isEdited) me = await anew(me);
+      if (isEdited) edit(me, "three");
       const { name } = me.provider.replica;
       const gate = new Gate(address, count);
-      const copy = await copied({ ...me, at: await gate.listen() }, "copy");
+      let copy = await copied({ ...me, at: await gate.listen() }, "copy");
       edit(copy, "copy");
       edit(me, "original");
+      if (how === "both") copy = await anew(copy); // its file has what it says of itself behind what it has
       copy.provider.goOnline();
       await Promise.race([gate.isHolding, copy.provider.synced(WAIT)]);
       const again = await killed({ ...copy, at: address });
       gate.close();
       await online([me]);
-      const texts = ["base", "one", "two", ...(how === "edited" ? ["three"] : []), "copy", "original"];
+      const texts = ["base", "one", "two", ...(isEdited ? ["three"] : []), "copy", "original"];
       await check([me, again], texts, `behind ${count}`);
       equal(me.provider.replica.name, name, `behind ${count}`);
     }
