@@ -29,9 +29,11 @@ const KINDS = { known: "", old: ", of an older package", cloned: ", of a cloned 
 /** A test of copies as they are, and of those that don't show that they are copies.
  *  @param {string} name
  *  @param {(kind: keyof typeof KINDS) => Promise<void>} work
- *  @param {keyof typeof KINDS} [other] What these are. */
-function both(name, work, other = "cloned") {
-  for (const kind of /** @type {const} */ (["known", other])) test(`${name}${KINDS[kind]}`, () => work(kind));
+ *  @param {keyof typeof KINDS} [other] What these are.
+ *  @param {string} [named] The name of their test. */
+function both(name, work, other = "cloned", named = `${name}${KINDS[other]}`) {
+  test(name, () => work("known"));
+  test(named, () => work(other));
 }
 
 /** Copies a file.
@@ -165,7 +167,7 @@ both("a store copied while it is edited: whoever is online first, each edit is t
     await online([me, copy]);
     await check([me, copy], texts, documents[at]);
   }
-});
+}, "cloned", "a store copied while it is edited: whoever is online first, each edit is there once, of a cloned machine");
 
 test("a store that is read alone goes on under its name, also behind a kill", async () => {
   const { address } = await startServer(["d"]);
@@ -246,7 +248,7 @@ both("votes alike in the original and in copies, made while it was open, closed,
     await settled(all);
     for (const it of all) equal(it.provider.replica.sum([0, "votes"]), 1 + 2 + 1 + 3 * 3, `${how} ${first}`);
   }));
-});
+}, "cloned", "votes alike in the original and in copies, made while it was open, closed, or one each: each counts, of a cloned machine");
 
 both("a copy of what the server has says where it begins, too: votes alike count", async (kind) => {
   const ways = [true, false].flatMap((isSynced) => ["original", "copy", "both"].map((first) => ({ isSynced, first })));
