@@ -40,6 +40,18 @@ export const sayings = (name, places) => places.map(([, key], at) =>
 export const isSaying = ([, , , [path, key], [word]]) =>
   path.length === 1 && word === "delete" && typeof key === "string" && key.startsWith(`${WORDS} `);
 
+/** Operations with the first ones of a name in front, which say of so many names that they are copied. A
+ *  file has them behind what they are about.
+ *  @param {() => Iterable<Operation>} operations
+ *  @param {string} name
+ *  @param {number} count
+ *  @returns {Generator<Operation>} */
+export function* sayingsFirst(operations, name, count) {
+  const isFirst = (/** @type {Operation} */ op) => op[1][1] === name && op[1][0] <= count && isSaying(op);
+  if (count > 0) for (const op of operations()) if (isFirst(op)) yield op;
+  for (const op of operations()) if (!isFirst(op)) yield op;
+}
+
 /** Up to which operation of a replica a copy has them, where an operation says so; else 0. One that
  *  was copied in another opening has others, however alike.
  *  @param {any} op

@@ -1,10 +1,10 @@
 /* The exchange of a replica with servers. */
 
 import { Compared, firstDifference } from "./chains.mjs";
-import { Comparison, copyPlace } from "./copies.mjs";
+import { Comparison, copyPlace, sayingsFirst } from "./copies.mjs";
 import { Away, Refused, refusalOf } from "./errors.mjs";
 import { operationsOf } from "./followers.mjs";
-import { generationOf } from "./generations.mjs";
+import { beginningOf, generationOf } from "./generations.mjs";
 import { isArray, parse, print } from "./json.mjs";
 import { MOST } from "./limits.mjs";
 import { freshName } from "./names.mjs";
@@ -361,20 +361,40 @@ export class Exchange {
     if (this.#forked < Infinity) mine.delete(name()); // that is known
     const found = await first(mine);
     if (!found) return void (this.#comparedBy(answer).isKnown && this.#noteOwnSame(theirs));
-    await this.#checkLoss(answer, ask, theirs);
+    await this.#checkLoss(answer, ask, theirs, found);
     if (!this.isOwnName(found.name)) return found;
-    return (await first(new Map([...mine].filter(([it]) => !this.isOwnName(it))))) ?? found;
+    const others = await first(new Map([...mine].filter(([it]) => !this.isOwnName(it))));
+    if (others) await this.#checkLoss(answer, ask, theirs, others);
+    return others ?? found;
   }
 
-  /** Throws Away where the server has less than it had: a server that was killed since differs by that.
+  /** Throws Away where the server has less than it had, or had so a moment ago, and somebody has sent it
+   *  again: a server that was killed since differs by that.
    *  @param {Answer} answer
    *  @param {Ask} ask
-   *  @param {Map<string, number>} before */
-  async #checkLoss(answer, ask, before) {
+   *  @param {Map<string, number>} before
+   *  @param {import("./chains.mjs").Difference} found */
+  async #checkLoss(answer, ask, before, found) {
     const now = new Map(checkedFront(await ask("front")));
-    if ([...before].every(([name, counter]) => covers(now, [counter, name]))) return;
+    const isThere = [...before].every(([name, counter]) => covers(now, [counter, name]));
+    if (isThere && (await this.#isAnother(ask, now, found))) return;
     if (this.#followedBy(answer)) this.follow(answer);
     throw new Away(HAS_LOST);
+  }
+
+  /** Whether the server has another operation than this replica, from a counter on.
+   *  @param {Ask} ask
+   *  @param {Map<string, number>} theirs
+   *  @param {import("./chains.mjs").Difference} found */
+  async #isAnother(ask, theirs, { name, counter }) {
+    const isBeginning = counter === 1 && beginningOf([[name, counter]]).length > 0;
+    if (isBeginning) return true; // a front without it is none of this generation
+    const [here] = operationsOf(this.#core.read, upTo(this.#core.front(), name, counter - 1));
+    for await (const { operations } of pagesOf(ask, upTo(theirs, name, counter - 1), false)) {
+      const there = operations.find(([, [, maker]]) => maker === name);
+      if (there) return print(there) !== print(here);
+    }
+    return false;
   }
 
   /** Notes that a server has the own operations as they are here, as far as it has them.
@@ -473,10 +493,7 @@ export class Exchange {
     const { name, front, read } = this.#core;
     const comparison = new Comparison(this.#core, from);
     for (const op of operationsOf(read, [])) comparison.hear(op);
-    const behind = new Map(front());
-    if (from > 0) behind.set(name(), from);
-    else behind.delete(name());
-    for await (const { operations } of pagesOf(ask, behind, false)) {
+    for await (const { operations } of pagesOf(ask, upTo(front(), name(), from), false)) {
       for (const op of operations) comparison.take(op);
     }
     this.#copied = Math.max(this.#copied, comparison.copied);
@@ -587,7 +604,8 @@ export class Exchange {
       this.#noteSame(answer, id);
     });
     if (unsure.length > 0 && (await give(unsure))) return;
-    const lacked = operationsOf(this.#core.read, theirs);
+    const lacking = () => operationsOf(this.#core.read, theirs);
+    const lacked = sayingsFirst(lacking, name, this.#core.formers().size);
     this.#isLogging = false;
     for (const page of pagesToGive(lacked, name, () => this.#isLogging && !this.#isCopy)) {
       // What a server that is followed has logged meanwhile isn't sent to it.
@@ -795,6 +813,16 @@ export class Exchange {
  *  @param {Id} id */
 function raise(front, [counter, name]) {
   front.set(name, Math.max(counter, front.get(name) ?? 0));
+}
+
+/** A front that has a replica's operations up to a counter alone.
+ *  @param {ReadonlyMap<string, number>} front
+ *  @param {string} name
+ *  @param {number} counter */
+function upTo(front, name, counter) {
+  const known = new Map(front).set(name, counter);
+  if (counter === 0) known.delete(name);
+  return known;
 }
 
 /** @typedef {(word: string, ...items: any[]) => Promise<any>} Ask */

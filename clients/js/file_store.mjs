@@ -205,12 +205,14 @@ function parts(bytes) {
   return { head, lines, unread, kept, size, mark: head && markOf(pieces[0]), sessions };
 }
 
-/** Whether a file was edited last as another file: then it is a copy of that.
+/** Whether a file may be a copy of another one: it was edited last as another file, or it doesn't say as
+ *  which, and wasn't closed. The program of such a file may go on with it elsewhere.
  *  @param {ReturnType<typeof parts>} found
  *  @param {string} path */
-function isOfAnotherFile({ sessions }, path) {
-  const place = sessions[sessions.length - 1]?.place;
-  return typeof place === "string" && place !== placeOf(fs.statSync(path, { bigint: true }));
+function isOfAnotherFile({ sessions, mark }, path) {
+  const [last] = sessions.map(({ place }) => place).filter((it) => typeof it === "string").slice(-1);
+  if (last === undefined) return mark?.isOpen !== false;
+  return last !== placeOf(fs.statSync(path, { bigint: true }));
 }
 
 /** What a line says of an opening with edits: its word, which file it was, and which name went on

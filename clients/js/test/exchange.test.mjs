@@ -10,6 +10,7 @@ import { startServer } from "./support.mjs";
 
 const LIMIT = { timeout: 900_000 };
 const LOST = "the module: what a server loses by a kill while it is compared doesn't differ";
+const SENT_AGAIN = "the module: what a server loses while it is compared, and gets again from a copy, doesn't differ";
 const KILLED = "the module: behind a kill a server has others' operations in place of what was here: it is seen";
 
 /** @param {import("../session.mjs").Client} client
@@ -507,17 +508,21 @@ for (const [title, engine] of engines) {
     deepEqual(await me.sync(server.answer), { taken: 0, given: 2, refused: [] });
   });
 
-  test(title === "the module" ? LOST : `${title}: lost while it is compared`, LIMIT, async () => {
+  /** @type {[name: string, isSentAgain: boolean][]} */
+  const losses = [[title === "the module" ? LOST : `${title}: lost while it is compared`, false],
+    [title === "the module" ? SENT_AGAIN : `${title}: lost, and sent again by another, while it is compared`, true]];
+  for (const [name, isSentAgain] of losses) test(name, LIMIT, async () => {
     const before = fakeServer();
     const [me, peer] = [replicaOf("me"), replicaOf("peer")];
     me.put([0, "list"], ["base"]);
     for (const it of [me, peer]) await it.sync(before.answer);
     for (const it of [peer, me]) {
-      let isKilled = true;
-      const server = fakeServer(([word]) => {
-        if (word !== "front" || !isKilled) return undefined;
-        isKilled = false;
-        return ["front", [["me", 2]]];
+      let fronts = 0;
+      const server = fakeServer(([word], replica) => {
+        if (word !== "front") return undefined;
+        fronts += 1;
+        if (fronts === 2 && isSentAgain) for (const op of me.operations()) replica.deliver(op);
+        return fronts === 1 ? ["front", [["me", 2]]] : undefined;
       });
       const report = await it.sync(server.answer).catch((error) => {
         ok(error instanceof Away, String(error));

@@ -1,5 +1,4 @@
-/* A random run of programs whose stores are copied while they run or are closed, with kills of programs, of the server
-   and of the hub, and a network that is as slow as the dice say. Isn't run by itself. */
+/* Random runs of programs whose stores are copied, over a network that is as slow as the dice say. Isn't run by itself. */
 
 import { deepEqual, equal } from "node:assert/strict";
 import { mkdirSync } from "node:fs";
@@ -15,11 +14,11 @@ class Round {
   titles = [];
   votes = 0;
 
-  constructor(folder, seed) {
+  constructor(folder, seed, options = {}) {
     seedNames(seed);
     const kind = ["server", "hub", "pushes"][seed % 3];
     const hasChains = Math.floor(seed / 6) % 2 === 0; // if the engine has them
-    this.world = new World(folder, seed, { kind, isDurable: seed % 2 === 0, hasChains });
+    this.world = new World(folder, seed, { kind, isDurable: seed % 2 === 0, hasChains, ...options });
     this.dice = this.world.dice;
     this.seed = seed;
     this.number = 0;
@@ -62,6 +61,49 @@ class Round {
     this.world.say(it.name, "makes the card", title);
   }
 
+  /** Until all have what the others have. */
+  async settle() {
+    const { world } = this;
+    world.startAgain();
+    world.stored = world.log; // nothing more is lost
+    for (let turn = 0; turn < 3; turn++) await this.online(this.programs);
+  }
+
+  check(words) {
+    const { world, seed } = this;
+    const said = `seed ${seed}, ${words}`;
+    const shown = print(world.replica.show([0]));
+    for (const it of this.programs) {
+      const { replica, name } = it;
+      const about = `${said}: ${name}`;
+      deepEqual(operations(replica), operations(world.replica), `${about} has other operations`);
+      equal(print(replica.show([0])), shown, about);
+      deepEqual(replica.items([0, "list"]).flatMap(([, texts]) => texts).sort(), [...this.texts].sort(), about);
+      equal(Number(replica.sum([0, "votes"])), this.votes, `${about}: votes`);
+      const cards = this.titles.length > 0 ? replica.plain([0, "cards"]) : [];
+      deepEqual(cards.flatMap(({ title = [] }) => title).sort(), [...this.titles].sort(), `${about}: cards`);
+    }
+  }
+
+  /** @param {import("./simulated.mjs").Program[]} some */
+  async online(some) {
+    for (const it of some) it.provider.goOnline();
+    await this.world.until(Promise.all(some.map((it) => it.synced(4000))));
+  }
+
+  /** A program of which the server has the first edit. */
+  async begun() {
+    const first = await this.world.begun("0");
+    first.replica.assign([0, "list"], []);
+    this.write(first);
+    await this.online([first]);
+    first.provider.goOffline();
+    return first;
+  }
+}
+
+/** Stores are copied while their programs run or are closed, with kills of programs, of the server and of the hub. */
+class Copies extends Round {
   async reopen(it, isKilled) {
     await (isKilled ? it.kill() : it.close());
     const copy = this.dice.chance(0.3) && (await this.copy(it));
@@ -95,33 +137,6 @@ class Round {
     await world.run(dice.pick([0, 0, 1, 3, 10, 40]));
   }
 
-  /** Until all have what the others have. */
-  async settle() {
-    const { world } = this;
-    world.startAgain();
-    world.stored = world.log; // nothing more is lost
-    for (let turn = 0; turn < 3; turn++) {
-      for (const it of this.programs) it.provider.goOnline();
-      await world.until(Promise.all(this.programs.map((it) => it.synced(4000))));
-    }
-  }
-
-  check(words) {
-    const { world, seed } = this;
-    const said = `seed ${seed}, ${words}`;
-    const shown = print(world.replica.show([0]));
-    for (const it of this.programs) {
-      const { replica, name } = it;
-      const about = `${said}: ${name}`;
-      deepEqual(operations(replica), operations(world.replica), `${about} has other operations`);
-      equal(print(replica.show([0])), shown, about);
-      deepEqual(replica.items([0, "list"]).flatMap(([, texts]) => texts).sort(), [...this.texts].sort(), about);
-      equal(Number(replica.sum([0, "votes"])), this.votes, `${about}: votes`);
-      const cards = this.titles.length > 0 ? replica.plain([0, "cards"]) : [];
-      deepEqual(cards.flatMap(({ title = [] }) => title).sort(), [...this.titles].sort(), `${about}: cards`);
-    }
-  }
-
   async run() {
     const { dice, world } = this;
     const first = await world.begun("0");
@@ -143,16 +158,85 @@ class Round {
   }
 }
 
+/** Stores of an older package are copied, and the programs are online for moments. */
+class Moments extends Round {
+  constructor(folder, seed) { super(folder, seed, { isDurable: true, isOld: true }); }
+
+  async edit(it) { await (this.dice.chance(0.3) ? this.card(it) : this.write(it)); }
+
+  async again(it) {
+    await (this.dice.chance(0.5) ? it.close() : it.kill());
+    await it.open();
+  }
+
+  async moment(it) {
+    const { dice, world } = this;
+    it.provider.goOnline();
+    await world.run(dice.below(60));
+    if (dice.chance(0.3)) await this.edit(it);
+    if (dice.chance(0.5)) it.provider.goOffline();
+    else await this.again(it);
+  }
+
+  async run() {
+    const { dice } = this;
+    const first = await this.begun();
+    if (dice.chance(0.6)) await this.again(first);
+    for (let count = 1 + dice.below(3); count > 0; count--) await this.edit(first);
+    for (let count = 1 + dice.below(3); count > 0; count--) {
+      const it = dice.pick(this.programs);
+      const copy = await this.copy(it);
+      for (const one of [it, copy]) if (one && dice.chance(0.5)) await this.edit(one);
+    }
+    for (let count = 2 + dice.below(3); count > 0; count--) {
+      await this.moment(dice.pick(this.programs));
+      if (dice.chance(0.5)) await this.online([dice.pick(this.programs)]);
+    }
+    await this.settle();
+    this.check("once online");
+  }
+}
+
+/** A server that has lost something is killed again and again while programs compare what they have with it. */
+class Losses extends Round {
+  constructor(folder, seed) { super(folder, seed, { isDurable: false }); }
+
+  killed() {
+    this.world.kill();
+    this.world.startAgain();
+  }
+
+  async run() {
+    const { dice, world } = this;
+    const first = await this.begun();
+    for (let count = 1 + dice.below(3); count > 0; count--) this.write(first);
+    const all = [first, await this.copy(first), await world.begun("other")];
+    for (const it of all.slice(1)) if (dice.chance(0.3)) this.write(it);
+    await this.online(all);
+    for (const it of all) it.provider.goOffline();
+    this.killed();
+    for (const it of all) it.provider.goOnline();
+    for (let count = 0; count < 60; count++) {
+      await world.run(dice.below(4));
+      if (dice.chance(0.12)) this.killed();
+    }
+    await this.settle();
+    this.check("once online");
+  }
+}
+
 const operations = (replica) => [...replica.operations()].map(print).sort();
 
+const RUNS = { copies: Copies, moments: Moments, losses: Losses };
 
 /** Makes the run of a seed. Resolves what went wrong, if something did.
  *  @param {string} folder
  *  @param {number} seed
+ *  @param {keyof typeof RUNS} [which]
  *  @returns {Promise<string | undefined>} */
-export async function faultOf(folder, seed) {
-  mkdirSync(`${folder}/${seed}`);
-  const round = new Round(`${folder}/${seed}`, seed);
+export async function faultOf(folder, seed, which = "copies") {
+  mkdirSync(`${folder}/${which}-${seed}`);
+  const round = new RUNS[which](`${folder}/${which}-${seed}`, seed);
   try {
     await round.run();
     return undefined;

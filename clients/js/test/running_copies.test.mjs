@@ -1,5 +1,6 @@
 /* Copies of a store that are made while a program goes on with it, as by a backup: all go online. A copy of a file
-   goes on under a name of its own. One of an older package, or of Python's, keeps the name, and says that it is one. */
+   goes on under a name of its own, also one of an older package, which doesn't say which file it is. That of a machine
+   that was cloned keeps the name, and says that it may be a copy. */
 
 import { deepEqual, equal } from "node:assert/strict";
 import { readFileSync, writeFileSync } from "node:fs";
@@ -14,7 +15,7 @@ import { fileStore } from "../file_store.mjs";
  *  @property {string} file
  *  @property {string} at
  *  @property {string} document
- *  @property {boolean} isOld Whether its copies don't know which file they are copies of.
+ *  @property {keyof typeof KINDS} kind What its copies are.
  *  @property {import("../clock.mjs").Clock} [clock]
  *  @property {import("../provider.mjs").Provider} provider */
 
@@ -22,48 +23,64 @@ const WAIT = 1200; // seconds, of a quick clock, too
 /** By it a program waits little for what a copy may send: up to five seconds. */
 const clock = quickClock(4);
 
-/** A test of copies as they are, and as those of an older package are.
+/** What copies are, as a test says it. */
+const KINDS = { known: "", old: ", of an older package", cloned: ", of a cloned machine" };
+
+/** A test of copies as they are, and of those that don't show that they are copies.
  *  @param {string} name
- *  @param {(isOld: boolean) => Promise<void>} work
- *  @param {string} [old] The name of the second one. */
-function both(name, work, old = `${name}, of an older package`) {
-  test(name, () => work(false));
-  test(old, () => work(true));
+ *  @param {(kind: keyof typeof KINDS) => Promise<void>} work
+ *  @param {keyof typeof KINDS} [other] What these are.
+ *  @param {string} [named] The name of their test. */
+function both(name, work, other = "cloned", named = `${name}${KINDS[other]}`) {
+  test(name, () => work("known"));
+  test(named, () => work(other));
 }
 
 /** Copies a file.
  *  @param {string} file
  *  @param {string} to
- *  @param {boolean} isOld Whether it isn't said of which file it is a copy. */
-function copyStore(file, to, isOld) {
-  const text = readFileSync(file, "utf8");
-  writeFileSync(to, isOld ? text.replace(/^(\["session","[^"]*").*$/gm, "$1]") : text);
+ *  @param {keyof typeof KINDS} [kind] One of an older package doesn't say which file it is. That of a cloned machine has
+ *    the same number as the original. */
+function copyStore(file, to, kind = "known") {
+  let text = readFileSync(file, "utf8");
+  if (kind === "old") text = text.replace(/^(\["session","[^"]*"),"[^"]*"\]$/gm, "$1]");
+  if (kind === "cloned") text = text.replace(/"file-[^"]*"/g, placeOf(to));
+  writeFileSync(to, text);
+}
+
+/** Which file it is, as a store in it says.
+ *  @param {string} file that is made */
+function placeOf(file) {
+  const store = fileStore(file);
+  store.open("d", () => "me");
+  store.close();
+  return /"file-[^"]*"/.exec(readFileSync(file, "utf8"))[0];
 }
 
 /** @param {string} file
  *  @param {string} at
  *  @param {string} [document]
- *  @param {boolean} [isOld]
+ *  @param {keyof typeof KINDS} [kind]
  *  @param {import("../clock.mjs").Clock} [clock]
  *  @returns {Promise<Program>} */
-async function storeOf(file, at, document = "d", isOld = false, clock = undefined) {
+async function storeOf(file, at, document = "d", kind = "known", clock = undefined) {
   const options = { document, store: fileStore(file), isOnline: false, word: "me", clock };
-  return { file, at, document, isOld, clock, provider: await opened(at, options) };
+  return { file, at, document, kind, clock, provider: await opened(at, options) };
 }
 
 /** A program over a copy of a store.
  *  @param {Program} it
  *  @param {string} word */
-function copied({ file, at, document, isOld, clock }, word) {
-  copyStore(file, `${file}-${word}`, isOld);
-  return storeOf(`${file}-${word}`, at, document, isOld, clock);
+function copied({ file, at, document, kind, clock }, word) {
+  copyStore(file, `${file}-${word}`, kind);
+  return storeOf(`${file}-${word}`, at, document, kind, clock);
 }
 
 /** Starts a program again that is closed.
  *  @param {Program} it */
-async function anew({ file, at, document, isOld, clock, provider }) {
+async function anew({ file, at, document, kind, clock, provider }) {
   await provider.close();
-  return storeOf(file, at, document, isOld, clock);
+  return storeOf(file, at, document, kind, clock);
 }
 
 /** Starts a program again behind a kill: what its store has then goes on alone.
@@ -115,10 +132,10 @@ async function check(all, texts, words) {
  *  @param {string} file
  *  @param {string} at
  *  @param {string} [document]
- *  @param {boolean} [isOld]
+ *  @param {keyof typeof KINDS} [kind]
  *  @param {import("../clock.mjs").Clock} [clock] */
-async function begun(file, at, document, isOld, clock) {
-  const it = await storeOf(file, at, document, isOld, clock);
+async function begun(file, at, document, kind, clock) {
+  const it = await storeOf(file, at, document, kind, clock);
   it.provider.replica.assign([0, "list"], []);
   edit(it, "base");
   await online([it]);
@@ -126,7 +143,7 @@ async function begun(file, at, document, isOld, clock) {
   return it;
 }
 
-both("a store copied while it is edited: whoever is online first, each edit is there once", async (isOld) => {
+both("a store copied while it is edited: whoever is online first, each edit is there once", async (kind) => {
   // Where the program was opened anew, the server has logged nothing of it since.
   const ways = ["original", "copy", "both"].flatMap((way) =>
     [[true, true], [true, false], [false, true], [false, false]].map(([isEdited, isAnew]) => ({ way, isEdited, isAnew })));
@@ -134,7 +151,7 @@ both("a store copied while it is edited: whoever is online first, each edit is t
   const { address } = await startServer(documents);
   for (const [at, { way, isEdited, isAnew }] of ways.entries()) {
     const folder = room();
-    let me = await begun(`${folder}/store`, address, documents[at], isOld);
+    let me = await begun(`${folder}/store`, address, documents[at], kind);
     if (isAnew) me = await anew(me);
     edit(me, "before 1");
     edit(me, "before 2");
@@ -150,7 +167,7 @@ both("a store copied while it is edited: whoever is online first, each edit is t
     await online([me, copy]);
     await check([me, copy], texts, documents[at]);
   }
-}, "a store copied while it is edited: whoever is online first, each edit is there once, of an older package");
+}, "cloned", "a store copied while it is edited: whoever is online first, each edit is there once, of a cloned machine");
 
 test("a store that is read alone goes on under its name, also behind a kill", async () => {
   const { address } = await startServer(["d"]);
@@ -161,19 +178,19 @@ test("a store that is read alone goes on under its name, also behind a kill", as
   equal(again.provider.replica.name, name);
 });
 
-both("random copies of running stores, all online in any order: each edit is there once", async (isOld) => {
-  const rounds = Number(process.env.ROUNDS ?? (isOld && !process.env.JCRDT_SLOW ? 4 : 12));
+both("random copies of running stores, all online in any order: each edit is there once", async (kind) => {
+  const rounds = Number(process.env.ROUNDS ?? (kind === "old" && !process.env.JCRDT_SLOW ? 4 : 12));
   const first = Number(process.env.SEED ?? 1);
-  for (let seed = first; seed < first + rounds; seed++) await round(seed, isOld);
-});
+  for (let seed = first; seed < first + rounds; seed++) await round(seed, kind);
+}, "old");
 
 /** @param {number} seed
- *  @param {boolean} isOld */
-async function round(seed, isOld) {
+ *  @param {keyof typeof KINDS} kind */
+async function round(seed, kind) {
   const { below, chance, pick } = dice(seed);
   const { address, child } = await startServer(["d"]);
   const folder = room();
-  const all = [await begun(`${folder}/0`, address, "d", isOld)];
+  const all = [await begun(`${folder}/0`, address, "d", kind)];
   const [texts, titles] = [["base"], []];
   const copy = async (it) => {
     if (all.length < 6) all.push(await copied(it, String(all.length)));
@@ -211,34 +228,34 @@ async function round(seed, isOld) {
   child.kill();
 }
 
-both("votes alike in the original and in copies, made while it was open, closed, or one each: each counts", async (isOld) => {
+both("votes alike in the original and in copies, made while it was open, closed, or one each: each counts", async (kind) => {
   const ways = ["open", "closed", "one each"].flatMap((how) => [0, 1, 2].map((first) => ({ how, first })));
   const documents = ways.map((_, at) => `d${at}`);
   const { address } = await startServer(documents);
   await Promise.all(ways.map(async ({ how, first }, at) => {
-    let me = await begun(`${room()}/store`, address, documents[at], isOld, clock);
+    let me = await begun(`${room()}/store`, address, documents[at], kind, clock);
     vote(me, 2);
     const copies = { open: [], closed: ["one", "two"], "one each": ["one"] }[how];
     if (copies.length > 0) await me.provider.close();
-    for (const word of copies) copyStore(me.file, `${me.file}-${word}`, isOld);
-    if (copies.length > 0) me = await storeOf(me.file, address, documents[at], isOld, clock);
+    for (const word of copies) copyStore(me.file, `${me.file}-${word}`, kind);
+    if (copies.length > 0) me = await storeOf(me.file, address, documents[at], kind, clock);
     vote(me, 1);
     const others = ["one", "two"].map((word) => (copies.includes(word)
-      ? storeOf(`${me.file}-${word}`, address, documents[at], isOld, clock) : copied(me, word)));
+      ? storeOf(`${me.file}-${word}`, address, documents[at], kind, clock) : copied(me, word)));
     const all = [me, ...await Promise.all(others)];
     for (const it of all) vote(it, 3);
     await online([all[first]]);
     await settled(all);
     for (const it of all) equal(it.provider.replica.sum([0, "votes"]), 1 + 2 + 1 + 3 * 3, `${how} ${first}`);
   }));
-}, "votes alike in the original and in copies, made while it was open, closed, or one each: each counts, of an older package");
+}, "cloned", "votes alike in the original and in copies, made while it was open, closed, or one each: each counts, of a cloned machine");
 
-both("a copy of what the server has says where it begins, too: votes alike count", async (isOld) => {
+both("a copy of what the server has says where it begins, too: votes alike count", async (kind) => {
   const ways = [true, false].flatMap((isSynced) => ["original", "copy", "both"].map((first) => ({ isSynced, first })));
   const documents = ways.map((_, at) => `d${at}`);
   const { address } = await startServer(documents);
   await Promise.all(ways.map(async ({ isSynced, first }, at) => {
-    const me = await begun(`${room()}/store`, address, documents[at], isOld, clock);
+    const me = await begun(`${room()}/store`, address, documents[at], kind, clock);
     const copy = await copied(me, "copy");
     if (isSynced) await online([copy]);
     copy.provider.goOffline();
@@ -249,12 +266,12 @@ both("a copy of what the server has says where it begins, too: votes alike count
   }));
 });
 
-both("a card that was begun when the copy was made is one", async (isOld) => {
+both("a card that was begun when the copy was made is one", async (kind) => {
   const ways = ["original", "copy", "both"].flatMap((first) => [true, false].map((isAnew) => ({ first, isAnew })));
   const documents = ways.map((_, at) => `d${at}`);
   const { address } = await startServer(documents);
   for (const [at, { first, isAnew }] of ways.entries()) {
-    let me = await begun(`${room()}/store`, address, documents[at], isOld);
+    let me = await begun(`${room()}/store`, address, documents[at], kind);
     me.provider.replica.insert([0, "list", 0], {});
     let copy = await copied(me, "copy");
     me.provider.replica.assign([0, "list", 1, "title"], "original's");
@@ -268,15 +285,15 @@ both("a card that was begun when the copy was made is one", async (isOld) => {
   }
 });
 
-both("cards that were begun alike behind a closed store are two", async (isOld) => {
+both("cards that were begun alike behind a closed store are two", async (kind) => {
   const { address } = await startServer(["closed", "killed"]);
   await Promise.all(["closed", "killed"].map(async (how) => {
-    const me = await begun(`${room()}/store`, address, how, isOld, clock);
+    const me = await begun(`${room()}/store`, address, how, kind, clock);
     await me.provider.close();
-    copyStore(me.file, `${me.file}-copy`, isOld);
+    copyStore(me.file, `${me.file}-copy`, kind);
     const all = [];
     for (const [at, file] of [me.file, `${me.file}-copy`].entries()) {
-      const it = await storeOf(file, address, how, isOld, clock);
+      const it = await storeOf(file, address, how, kind, clock);
       it.provider.replica.insert([0, "list", 0], {});
       it.provider.replica.assign([0, "list", 1, "title"], `card ${at}`);
       all.push(await (how === "closed" ? anew : killed)(it));
@@ -340,7 +357,7 @@ class Gate {
 
 const EDITS = 80; // of two operations: more than two pages
 
-both("a store copied while its program sends what it has, in pages: each edit is there once", async (isOld) => {
+both("a store copied while its program sends what it has, in pages: each edit is there once", async (kind) => {
   const ways = [1, 40, 65, 130].flatMap((count) => ["copy", "original", "both", "killed"].map((how) => ({ count, how })));
   const documents = ways.map((_, at) => `d${at}`);
   const { address } = await startServer(documents);
@@ -348,7 +365,7 @@ both("a store copied while its program sends what it has, in pages: each edit is
     const file = `${room()}/store`;
     await (await begun(file, address, documents[at])).provider.close();
     const gate = new Gate(address, count);
-    let me = await storeOf(file, await gate.listen(), documents[at], isOld);
+    let me = await storeOf(file, await gate.listen(), documents[at], kind);
     const texts = ["base", ...Array.from({ length: EDITS }, (_, number) => `before ${number}`)];
     for (const text of texts.slice(1)) edit(me, text);
     me.provider.goOnline();
@@ -367,32 +384,38 @@ both("a store copied while its program sends what it has, in pages: each edit is
   }
 });
 
-const BEFORE = { known: "has sent something before", new: "has a new name", anew: "was opened anew" };
+const BEFORE = { known: "has sent something before", new: "has a new name", anew: "was opened anew",
+  edited: "was edited since it was opened anew", both: "was edited since, and the copy was opened anew, too" };
 
 for (const [how, before] of Object.entries(BEFORE)) {
-  test(`a copy is killed while it sends, the program ${before}: what came of it is its own`, async () => {
+  both(`a copy is killed while it sends, the program ${before}: what came of it is its own`, async (kind) => {
     const documents = Array.from({ length: 9 }, (_, count) => `d${count}`);
     const { address } = await startServer(documents);
     for (const [count, document] of documents.entries()) {
       const file = `${room()}/store`;
-      let me = await (how === "new" ? storeOf(file, address, document) : begun(file, address, document));
+      let me = await (how === "new" ? storeOf : begun)(file, address, document, kind, clock);
       if (how === "new") me.provider.replica.assign([0, "list"], []);
       for (const text of how === "new" ? ["base", "one", "two"] : ["one", "two"]) edit(me, text);
       if (how === "anew") me = await anew(me);
+      const isEdited = ["edited", "both"].includes(how);
+      if (isEdited) me = await anew(me);
+      if (isEdited) edit(me, "three");
       const { name } = me.provider.replica;
       const gate = new Gate(address, count);
-      const copy = await copied({ ...me, at: await gate.listen() }, "copy");
+      let copy = await copied({ ...me, at: await gate.listen() }, "copy");
       edit(copy, "copy");
       edit(me, "original");
+      if (how === "both") copy = await anew(copy); // its file has what it says of itself behind what it has
       copy.provider.goOnline();
       await Promise.race([gate.isHolding, copy.provider.synced(WAIT)]);
       const again = await killed({ ...copy, at: address });
       gate.close();
       await online([me]);
-      await check([me, again], ["base", "one", "two", "copy", "original"], `behind ${count}`);
+      const texts = ["base", "one", "two", ...(isEdited ? ["three"] : []), "copy", "original"];
+      await check([me, again], texts, `behind ${count}`);
       equal(me.provider.replica.name, name, `behind ${count}`);
     }
-  });
+  }, "old");
 }
 
 test("votes alike of two closed copies count, also where each was opened again before it was online", async () => {
@@ -400,13 +423,13 @@ test("votes alike of two closed copies count, also where each was opened again b
   const documents = ways.map((_, at) => `d${at}`);
   const { address } = await startServer(documents);
   await Promise.all(ways.map(async ({ first, isSent }, at) => {
-    const me = await begun(`${room()}/store`, address, documents[at], false, clock);
+    const me = await begun(`${room()}/store`, address, documents[at], "known", clock);
     if (!isSent) vote(me, 1);
     await me.provider.close();
-    for (const word of ["one", "two"]) copyStore(me.file, `${me.file}-${word}`, false);
+    for (const word of ["one", "two"]) copyStore(me.file, `${me.file}-${word}`);
     const all = [];
     for (const file of [me.file, `${me.file}-one`, `${me.file}-two`]) {
-      const it = await storeOf(file, address, documents[at], false, clock);
+      const it = await storeOf(file, address, documents[at], "known", clock);
       vote(it, 2);
       all.push(await anew(it));
     }
@@ -422,15 +445,15 @@ test("what is edited while edits are made again, and copied then, is there once"
   const documents = Array.from({ length: 6 }, (_, count) => `d${count}`);
   const { address } = await startServer(documents);
   for (const [count, document] of documents.entries()) {
-    const first = await begun(`${room()}/store`, address, document, true);
+    const first = await begun(`${room()}/store`, address, document, "old");
     await first.provider.close();
-    copyStore(first.file, `${first.file}-copy`, true);
+    copyStore(first.file, `${first.file}-copy`, "old");
     const me = await anew(first);
     edit(me, "me");
     await online([me]);
     // The other one has the same name, and is to make its edits again: it is held in the midst of that.
     const gate = new Gate(address, 3 + count);
-    const copy = await storeOf(`${first.file}-copy`, await gate.listen(), document, false);
+    const copy = await storeOf(`${first.file}-copy`, await gate.listen(), document);
     edit(copy, "before");
     copy.provider.goOnline();
     await Promise.race([gate.isHolding, copy.provider.synced(WAIT)]);

@@ -1,7 +1,7 @@
 /* A server, or a hub before it, within this program, and programs with stores in files. Each line, kill and pause
    comes when the dice say so: the same seed does the same again. Isn't run by itself. */
 
-import { copyFileSync, readFileSync, writeFileSync } from "node:fs";
+import { readFileSync, writeFileSync } from "node:fs";
 import { Replica } from "../replica.mjs";
 import { Provider } from "../provider.mjs";
 import { fileStore } from "../file_store.mjs";
@@ -94,14 +94,16 @@ export class World {
 
   /** @param {string} folder
    *  @param {number} seed
-   *  @param {{ kind?: "server" | "hub" | "pushes", isDurable?: boolean, hasChains?: boolean }} [options]
-   *    `hasChains`: whether it gives digests, if the engine does */
-  constructor(folder, seed, { kind = "pushes", isDurable = false, hasChains = true } = {}) {
+   *  @param {{ kind?: "server" | "hub" | "pushes", isDurable?: boolean, hasChains?: boolean, isOld?: boolean }} [options]
+   *    `hasChains`: whether it gives digests, if the engine does; `isOld`: whether stores are copied as those of an older
+   *    package, which don't say which file they are */
+  constructor(folder, seed, { kind = "pushes", isDurable = false, hasChains = true, isOld = false } = {}) {
     this.folder = folder;
     this.dice = dice(seed);
     this.kind = kind;
     this.isDurable = isDurable;
     this.hasChains = hasChains;
+    this.isOld = isOld;
     this.isUp = true; // whether the server runs
     /** @type {string[]} */
     this.stored = [];
@@ -347,7 +349,9 @@ export class Program {
   /** Another program over a copy of the store as it is.
    *  @param {string} name */
   async copied(name) {
-    copyFileSync(this.file, `${this.world.folder}/${name}`);
+    const text = readFileSync(this.file, "utf8");
+    const isOld = this.world.isOld;
+    writeFileSync(`${this.world.folder}/${name}`, isOld ? text.replace(/^(\["session","[^"]*"),"[^"]*"\]$/gm, "$1]") : text);
     this.world.say(this.name, "is copied to", name);
     return this.world.begun(name);
   }

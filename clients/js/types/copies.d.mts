@@ -1,3 +1,10 @@
+/** Operations with the first ones of a name in front, which say of so many names that they are copied. A
+ *  file has them behind what they are about.
+ *  @param {() => Iterable<Operation>} operations
+ *  @param {string} name
+ *  @param {number} count
+ *  @returns {Generator<Operation>} */
+export function sayingsFirst(operations: () => Iterable<import("./operations.mjs").Operation>, name: string, count: number): Generator<import("./operations.mjs").Operation>;
 export function copyPlace(name: string, counter: number, session: string, origin: string): import("./operations.mjs").Cursor;
 export function sayings(name: string, places: import("./operations.mjs").Cursor[]): import("./operations.mjs").Operation[];
 export function isSaying([, , , [path, key], [word]]: import("./operations.mjs").Operation): boolean;
