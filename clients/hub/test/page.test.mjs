@@ -939,13 +939,17 @@ test("a server whose older file is put back: the text pad says so, and makes its
   deepEqual(await shown(), { k: "another", text: "Hello" });
 });
 
-test("behind a proxy with TLS, below a path", async () => {
+test("behind a proxy with TLS, below a path", async (context) => {
   const folder = room();
   execFileSync("openssl", ["req", "-x509", "-newkey", "ec", "-pkeyopt", "ec_paramgen_curve:P-256",
     "-nodes", "-days", "2", "-subj", "/CN=localhost", "-keyout", `${folder}/key.pem`,
     "-out", `${folder}/cert.pem`], { stdio: "ignore" });
   const [key, cert] = ["key", "cert"].map((it) => readFileSync(`${folder}/${it}.pem`));
   const proxy = https.createServer({ key, cert }).listen(0, "127.0.0.1");
+  context.after(() => {
+    proxy.close();
+    proxy.closeAllConnections();
+  });
   await new Promise((listens) => proxy.on("listening", listens));
   const origin = `https://localhost:${proxy.address().port}`;
   const server = await startServer(["page"]);
@@ -977,8 +981,6 @@ test("behind a proxy with TLS, below a path", async () => {
   await setTitle(tab, "ada", "by TLS");
   await same(tab, "both have it", ".title", ["by TLS"]);
   deepEqual(tab.faults, []);
-  proxy.close();
-  proxy.closeAllConnections();
 });
 
 test("by plain http from another machine, where there are no locks", async () => {
