@@ -115,6 +115,19 @@ module _ (r : Replica) (op : Op) (new : find_id r.log op.id ≡ None) (unheld : 
       by false true h e = absurd (true≢false (sym e))
       by false false h e = refl
 
+-- what is logged has a new id, is another's, is ready, and has no cause against it
+pub logged_only : (equal has equal_held has_held own ready full : Bool) (known kept due : _) (op : Op)
+    → first_row ((equal, replied known) ∷ (has, no IdConflict) ∷ (equal_held, replied kept) ∷ (has_held, no IdConflict) ∷ (own, no OwnName) ∷ (not ready && full, no HeldFull) ∷ (not ready, held op) ∷ []) due
+    ≡ logged op → (has ≡ false) × (has_held ≡ false) × (own ≡ false) × (ready ≡ true) × (due ≡ logged op)
+logged_only true has equal_held has_held own ready full known kept due op e = absurd (cc)
+logged_only false true equal_held has_held own ready full known kept due op e = absurd (cc)
+logged_only false false true has_held own ready full known kept due op e = absurd (cc)
+logged_only false false false true own ready full known kept due op e = absurd (cc)
+logged_only false false false false true ready full known kept due op e = absurd (cc)
+logged_only false false false false false false true known kept due op e = absurd (cc)
+logged_only false false false false false false false known kept due op e = absurd (cc)
+logged_only false false false false false true full known kept due op e = (refl, refl, refl, refl, e)
+
 -- the expected outcome, under another name
 pub meets_as : (r : Replica) (due other : Expected) (answer : Reply) (s : Replica) → due ≡ other → Meets r due answer s → Meets r other answer s
 meets_as r due other answer s is h = subst (λ d. Meets r d answer s) is h

@@ -1,4 +1,5 @@
 -- Where a replica may be out of memory.
+use Rattle.std.specs.Prelude.{◌≡◌}
 use Rattle.doc_api.specs.declared.ask.Command.{Command}
 use Rattle.doc_api.specs.declared.ask.Command.TheVariants.{Change, Deliver, Forget}
 use Rattle.doc_api.specs.declared.reply.Reply.TheVariants.{Held}
@@ -18,3 +19,9 @@ abbrev pub MayLack : Replica → Command → Type 0
 MayLack r (Change place m) = Unit {0}
 MayLack r (Deliver op) = NeedsMemory (expected_of_delivery r op)
 MayLack r (Forget i) = ⊥
+
+-- A command may log something.
+abbrev pub MayLog : Replica → Command → Type 0
+MayLog r (Change place m) = Unit {0}
+MayLog r (Deliver op) = expected_of_delivery r op ≡ logged op
+MayLog r (Forget i) = ⊥

@@ -1,6 +1,6 @@
 //! The delivery of operations that were made elsewhere.
 ghost use Rattle.std.specs.Prelude.{◌≡◌, ◌<◌, ℕ, List, length, nat_le, bytes_eq, None};
-ghost use Rattle.std.specs.Prelude.{if◌then◌else◌};
+ghost use Rattle.std.specs.Prelude.{if◌then◌else◌, ◌×◌, ◌↔◌, IsTrue};
 ghost use Rattle.op_core.specs.Limits.{most_held};
 ghost use Rattle.std.specs.Option.{option_map};
 ghost use Rattle.op_core.specs.Equality.{operation_eq};
@@ -35,6 +35,25 @@ impl Body {
             Some(is_same) => known_or_conflict(is_same),
             None => self.deliver_unlogged(name, op),
         }
+    }
+
+    /// Whether a delivery of the operation would log it, if memory suffices. Allocates nothing.
+    pub fn would_log(&self, name: &ReplicaName, op: &Operation) -> bool
+        ensures { let r = replica_with name.now self.now in
+            IsTrue result ↔ expected_of_delivery r op.now ≡ expected.logged op.now }
+    {
+        self.is_new(op)
+            && !is_by(op, name)
+            && self.log().is_ready(op)
+            && self.log().check(op).is_ok()
+    }
+
+    // Whether no operation of its id is logged or held.
+    fn is_new(&self, op: &Operation) -> bool
+        ensures { IsTrue result
+            ↔ (find_id self.now.log op.now.id ≡ None) × (find_id self.now.held op.now.id ≡ None) }
+    {
+        self.log().get(op.id()).is_none() && self.held().get(op.id()).is_none()
     }
 
     // Whether the logged operation of its id is the operation, if there is one.
