@@ -1,6 +1,6 @@
 //! The delivery of operations that were made elsewhere.
 ghost use Rattle.std.specs.Prelude.{◌≡◌, ◌<◌, ℕ, List, length, nat_le, bytes_eq, None};
-ghost use Rattle.std.specs.Prelude.{if◌then◌else◌, ◌×◌, ◌↔◌, IsTrue};
+ghost use Rattle.std.specs.Prelude.{if◌then◌else◌};
 ghost use Rattle.op_core.specs.Limits.{most_held};
 ghost use Rattle.std.specs.Option.{option_map};
 ghost use Rattle.op_core.specs.Equality.{operation_eq};
@@ -10,6 +10,7 @@ ghost use Rattle.doc_rules.specs.Cause.{cause_of};
 ghost use Rattle.doc_rules.specs.Events as expected;
 ghost use Rattle.doc_rules.specs.Events.{expected_by_cause, expected_of_delivery};
 ghost use Rattle.doc_rules.specs.Replica.{Replica, find_id};
+ghost use Rattle.replica_core.specs.Memory.{is_to_log};
 ghost use Rattle.replica_core.specs.Outcomes.{Meets, reply_of_delivered};
 ghost use Rattle.replica_core.specs.Whole.{replica_with};
 
@@ -39,21 +40,13 @@ impl Body {
 
     /// Whether a delivery of the operation would log it, if memory suffices. Allocates nothing.
     pub fn would_log(&self, name: &ReplicaName, op: &Operation) -> bool
-        ensures { let r = replica_with name.now self.now in
-            IsTrue result ↔ expected_of_delivery r op.now ≡ expected.logged op.now }
+        ensures { result ≡ is_to_log (replica_with name.now self.now) op.now }
     {
-        self.is_new(op)
+        !self.log().contains(op.id())
+            && !self.held().contains(op.id())
             && !is_by(op, name)
             && self.log().is_ready(op)
             && self.log().check(op).is_ok()
-    }
-
-    // Whether no operation of its id is logged or held.
-    fn is_new(&self, op: &Operation) -> bool
-        ensures { IsTrue result
-            ↔ (find_id self.now.log op.now.id ≡ None) × (find_id self.now.held op.now.id ≡ None) }
-    {
-        self.log().get(op.id()).is_none() && self.held().get(op.id()).is_none()
     }
 
     // Whether the logged operation of its id is the operation, if there is one.
