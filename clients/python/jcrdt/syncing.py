@@ -55,6 +55,9 @@ class Exchange:
         self.replica, self.client, self.document, self.name = replica, client, document, replica.name
         self.own, self.place, self.logs = own, (client.address, document), logs or ComparedLogs()
         self.came = self.went = 0
+        # What was heard of copies, and behind which operations they may say more.
+        self.said = 0
+        self.heard: Front = {}
         # Whether the server has logged an own operation in this exchange; and whether another program sends such ones meanwhile.
         self.is_logging = self.is_disturbed = False
         self.refused: List[Tuple[Id, Refused]] = []
@@ -130,14 +133,26 @@ class Exchange:
         for one, other in zip_longest(mine, there):
             if other is not None:
                 there_last = other[1][0]
-                copied = max(copied, self.own.copied(other))
+                copied = max(copied, self.own.copied(other, self.name))
             if other is not None and other[1][0] > self.own.sent:
                 unsent = unsent or other[1][0]
             if differs is None and one is not None and other is not None and is_same(one, other):
                 same = one[1][0]
             elif differs is None:
                 differs = min(it[1][0] for it in (one, other) if it is not None)
-        return Compared(same, differs, unsent, copied, there_last)
+        return Compared(same, differs, unsent, copied if unsent is None else max(copied, self.hear()), there_last)
+
+    def hear(self) -> int:
+        """Up to which own operation copies of the store say that they have them under names of their own."""
+        sides: Tuple[Behind, Behind] = (self.replica.operations, lambda front: self.client.operations(self.document, front))
+        for side in sides:
+            for it in side(dict(self.heard)):
+                counter, maker = it[1]
+                self.heard[maker] = counter
+                # What is of this name says that this one is a copy, or is heard where it is compared.
+                if maker != self.name:
+                    self.said = max(self.said, self.own.copied(it, self.name))
+        return self.said
 
     def forked_at(self) -> Optional[int]:
         """From which own counter on the server has, or may have, operations of another of this name."""
