@@ -178,12 +178,16 @@ def has_all(front: Front, before: Front) -> bool:
 def are_two(one: Behind, other: Behind, here: Front, there: Front, found: Difference) -> bool:
     """Whether two sides, which have these fronts now, have different operations where their digests differed. A server that was killed
     in between had less then, and has the same by now where a client has sent it again."""
-    if found.counter == 1 and beginning_of({found.replica: 1}):
-        # A front without it is none of this generation.
+    if is_beginning(found):
         return True
     before = {found.replica: found.counter - 1}
     first, second = _first_of(found.replica, one({**here, **before})), _first_of(found.replica, other({**there, **before}))
     return first is not None and second is not None and not is_same(first, second)
+
+
+def is_beginning(found: Difference) -> bool:
+    """Whether it begins a generation. A front without it is none of that, so it can't be asked for."""
+    return found.counter == 1 and len(beginning_of({found.replica: 1})) > 0
 
 
 def _first_of(replica: str, operations: Iterable[Operation]) -> Optional[Operation]:

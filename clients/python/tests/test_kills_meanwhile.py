@@ -2,6 +2,7 @@
 
 The server is a replica in this process, so a kill comes before a chosen request. Over libjcrdt.so; skipped where it isn't here."""
 
+import asyncio
 import itertools
 import os
 from typing import Any, Callable, Dict, List, Optional, Sequence, cast
@@ -12,11 +13,15 @@ from jcrdt import wire
 from jcrdt import replica as replica_module
 from jcrdt.chains import LogsDiffer
 from jcrdt.exchange import exchange
+from jcrdt.link import Link
+from jcrdt.operation_log import Log, Source
+from jcrdt.relay import Place, settle
 from jcrdt.replica import Replica
 from jcrdt.session import Session
 from jcrdt.stream import Stream
 from jcrdt.syncing import Differs
-from jcrdt.wire import Away, Lost, Operation
+from jcrdt.troubles import Troubles
+from jcrdt.wire import Away, Front, Lost, Operation
 
 pytestmark = pytest.mark.skipif(not any(map(os.path.isfile, replica_module.library_paths())), reason="libjcrdt.so isn't here")
 
@@ -68,6 +73,28 @@ class Older(Hub):
 
     def _answer(self, line: bytes) -> bytes:
         return b'["no",2,"bad-request"]' if line.startswith(b'["chains"') else super()._answer(line)
+
+
+class Linked:
+    """The same as a relay's session."""
+
+    def __init__(self, hub: Hub) -> None:
+        self.hub = hub
+
+    async def ask(self, *request: Any) -> List[Any]:
+        return self.hub.ask(*request)
+
+    async def ask_all(self, requests: Sequence[Sequence[Any]]) -> List[Any]:
+        return self.hub.ask_all(requests)
+
+    async def ask_lines(self, lines: List[bytes], take: Optional[Callable[[bytes], Any]] = None) -> List[bytes]:
+        replies = self.hub.answers(lines)
+        for it in replies if take else ():
+            cast(Callable[[bytes], Any], take)(it)
+        return [] if take else replies
+
+    async def front(self, document: str) -> Front:
+        return self.hub.front(document)
 
 
 def change(counter: int, name: str, value: Any) -> Operation:
@@ -177,6 +204,40 @@ def test_servers_that_are_killed_while_they_meet(is_other_one: bool) -> None:
             with pytest.raises(LogsDiffer) as differs:
                 exchange(hubs[0], hubs[1], "d")
             assert (differs.value.replica, differs.value.counter) == ("ada", 3)
+
+
+async def related(hubs: Sequence[Hub], log: Log, said: List[str]) -> None:
+    """A relay connects to some hubs, and settles."""
+    places = [Place("", cast(Link, Linked(it)), log, it.front("d"), Source(), Troubles(said.append)) for it in hubs]
+    try:
+        await settle(places)
+    finally:
+        for place in places:
+            place.close()
+
+
+@pytest.mark.parametrize("at", range(2, 12))
+def test_a_relay_goes_on_where_a_server_is_killed_meanwhile(at: int) -> None:
+    """It connects anew, and contests nothing. Before, it had all from another hub."""
+    for again in range(at, 13):
+        hub, log = Hub([*ADA, *BOB]), Log("d")
+        other = Hub([*ADA, *BOB, *changes("carl", 1)])
+        said: List[str] = []
+        asyncio.run(related([other], log, said))
+        hub.events[at] = lambda: hub.begin_with([*ADA, *BOB] if again == at else [*ADA[:2], *BOB[:1]])
+        hub.events.setdefault(again, lambda: hub.send([*ADA, *BOB]))
+        try:
+            asyncio.run(related([other, hub], log, said))
+        except Lost as error:
+            assert str(error) == "d: the server has lost what it had a moment ago"
+        hub.events.clear()
+        asyncio.run(related([other, hub], log, said))
+        assert (log.contested, said) == (set(), [])
+        assert hub.server.front() == other.server.front() == {"ada": 4, "bob": 4, "carl": 1}
+        hub.begin_with([*changes("ada", 1, 2, True, 4), *BOB])
+        with pytest.raises(LogsDiffer) as differs:
+            asyncio.run(related([other, hub], log, said))
+        assert (differs.value.replica, differs.value.counter) == ("ada", 3)
 
 
 def test_a_number_is_no_truth_also_at_an_older_server() -> None:
