@@ -526,3 +526,49 @@ def test_copies_in_both_languages(client: Session, tmp_path: Path, original: str
     assert state(me.me) == other.ask("look") == state(client, "d", [0]) == due
     other.close()
     me.close()
+
+
+@pytest.mark.skipif(shutil.which("node") is None, reason="node isn't here")
+@pytest.mark.parametrize("first", [0, 1])
+def test_a_closed_store_that_was_copied_goes_on_in_javascript(client: Session, tmp_path: Path, first: int) -> None:
+    """Under a name of its own: so what both edit alike, and close again before they are online, is there twice."""
+    store, copy = tmp_path / "store", tmp_path / "copy"
+    me = begun(store, client)
+    me.close()
+    shutil.copy(store, copy)
+    me.open()
+    me.write("same")
+    me.close()
+    me.open()
+    other = OfJavaScript(copy, client)
+    other.ask("write same")
+    other.close()
+    other = OfJavaScript(copy, client)
+    for number in (first, 1 - first, first, 1 - first):
+        if number:
+            other.ask("online")
+        else:
+            me.sync(client)
+    assert state(me.me) == other.ask("look") == state(client, "d", [0]) == (["base", "same", "same"], 3)
+    other.close()
+    me.close()
+
+
+@pytest.mark.skipif(shutil.which("node") is None, reason="node isn't here")
+@pytest.mark.parametrize("how", ["closed", "killed", "moved"])
+def test_the_same_file_keeps_its_name_in_javascript(client: Session, tmp_path: Path, how: str) -> None:
+    store = tmp_path / "store"
+    me = begun(store, client)
+    name = me.me.name
+    {"killed": me.kill}.get(how, me.close)()
+    if how == "moved":
+        store = store.rename(tmp_path / "moved")
+    other = OfJavaScript(store, client)
+    other.ask("write javascript")
+    assert other.ask("online") == state(client, "d", [0]) == (["base", "javascript"], 2)
+    other.close()
+    assert store.read_text().startswith(f'["replica","{name}","d"]')
+    me = Program(store)
+    me.sync(client)
+    assert (me.me.name, state(me.me)) == (name, (["base", "javascript"], 2))
+    me.close()
