@@ -216,7 +216,7 @@ function isOfAnotherFile({ sessions, mark }, path) {
 }
 
 /** What a line says of an opening with edits: its word, which file it was, and which name went on
- *  elsewhere. One of an older package, or of Python's, has the word alone.
+ *  elsewhere. One of an older package has the word alone.
  *  @param {string} line */
 function sessionOf(line) {
   const value = line.startsWith('["session",') ? readJson(line) : undefined;

@@ -7,7 +7,7 @@ since a server hashes them while others wait. A hub knows by a front of which ge
 that began it.
 """
 
-from typing import Any, Awaitable, Callable, Dict, Generator, Iterator, List, NamedTuple, Optional, Sequence, Tuple, TYPE_CHECKING
+from typing import Any, Awaitable, Callable, Dict, Generator, Iterable, Iterator, List, NamedTuple, Optional, Sequence, Tuple, TYPE_CHECKING
 
 from .generations import beginning_of
 from .protocol import NUMBERS
@@ -52,6 +52,8 @@ class LogsDiffer(Exception):
 
 Ask = Callable[[List[Piece]], List[List[Chain]]]
 AskSoon = Callable[[List[Piece]], Awaitable[List[List[Chain]]]]
+# What a side has behind a front, in log order.
+Behind = Callable[[Front], Iterable[Operation]]
 Comparing = Generator[List[Piece], Tuple[List[List[Chain]], List[List[Chain]]], Optional[Difference]]
 
 
@@ -68,8 +70,12 @@ class Compared:
         """Is to be called with the fronts. Where a side has lost something all is compared anew: it may have got something else."""
         for front, before in zip((here, there), self._fronts):
             if any(counter > front.get(replica, 0) for replica, counter in [*before.items(), *self.same.items()]):
-                self.same.clear()
+                self.forget()
         self._fronts = dict(here), dict(there)
+
+    def forget(self) -> None:
+        """Is to be called where a side has lost something: all is compared anew."""
+        self.same.clear()
 
     def note(self, replica: str, counter: int) -> None:
         self.same[replica] = max(counter, self.same.get(replica, 0))
@@ -162,6 +168,35 @@ def first_difference(one: Ask, other: Ask, here: Front, there: Front, compared: 
     except Refused as refusal:
         _note_unknown(refusal, compared)
         return None
+
+
+def has_all(front: Front, before: Front) -> bool:
+    """Whether a side has all that it had before."""
+    return all(counter <= front.get(replica, 0) for replica, counter in before.items())
+
+
+def are_two(one: Behind, other: Behind, here: Front, there: Front, found: Difference) -> bool:
+    """Whether two sides, which have these fronts now, have different operations where their digests differed. A server that was killed
+    in between had less then, and has the same by now where a client has sent it again."""
+    if is_beginning(found):
+        return True
+    before = {found.replica: found.counter - 1}
+    first, second = _first_of(found.replica, one({**here, **before})), _first_of(found.replica, other({**there, **before}))
+    return first is not None and second is not None and not is_same(first, second)
+
+
+def is_beginning(found: Difference) -> bool:
+    """Whether it begins a generation. A front without it is none of that, so it can't be asked for."""
+    return found.counter == 1 and len(beginning_of({found.replica: 1})) > 0
+
+
+def _first_of(replica: str, operations: Iterable[Operation]) -> Optional[Operation]:
+    return next((it for it in operations if it[1][1] == replica), None)
+
+
+def is_same(one: Operation, other: Operation) -> bool:
+    """Whether two operations are the same. To Python 1 and True are equal."""
+    return one == other and type(one[4][-1]) is type(other[4][-1])
 
 
 async def first_difference_soon(one: AskSoon, other: AskSoon, here: Front, there: Front, compared: Compared) -> Optional[Difference]:

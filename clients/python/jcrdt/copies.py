@@ -65,12 +65,14 @@ class Own:
         """The key by which this opening says up to where it may be a copy."""
         return " ".join(filter(None, (WORDS, name, str(self.restored), session, self.session_of(self.restored))))
 
-    def copied(self, operation: Operation) -> int:
-        """Up to which own operation another program says that it has a copy of this store; 0 if it says nothing. One that was copied in
-        another opening than this replica's has others, however alike."""
-        (_, name), (path, key), (word, *_) = operation[1], operation[3], operation[4]
+    def copied(self, operation: Operation, name: str) -> int:
+        """Up to which operation of this name another program says that it has a copy of this store; 0 if it says nothing. One that was
+        copied in another opening than this replica's has others, however alike. A copy under a name of its own, as JavaScript's are, says
+        so before all else: what knows of others was made again."""
+        (_, maker), known, (path, key), (word, *_) = operation[1:5]
         start = f"{WORDS} {name} "
-        if word != "delete" or len(path) != 1 or not isinstance(key, str) or not key.startswith(start):
+        is_first = maker == name or all(replica == maker for replica, _ in known)
+        if not is_first or word != "delete" or len(path) != 1 or not isinstance(key, str) or not key.startswith(start):
             return 0
         number, _, origin = (key[len(start):].split(" ") + ["", ""])[:3]
         counter = int(number) if number.isascii() and number.isdigit() else 0

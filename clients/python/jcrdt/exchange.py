@@ -10,12 +10,12 @@ was used by two starts, nothing is handed over, and the status is 1.
 import argparse
 from typing import Dict, List, Optional, Sequence, Tuple
 
-from .chains import Compared, LogsDiffer, first_difference, of_session
+from .chains import Behind, Compared, LogsDiffer, are_two, first_difference, has_all, of_session
 from .progress import Report, add_argument, progress_of, silent
 from .protocol import NAME_USED_TWICE
 from .session import Session, connected
 from .terminal import checked_address, say
-from .wire import Front, Id, Operation, Refused
+from .wire import Away, Front, Id, Operation, Refused
 
 # How many operations are delivered before their replies are read.
 BATCH = 256
@@ -91,11 +91,19 @@ def pull(source: Session, target: Session, document: str, report: Report = silen
 
 def check_alike(one: Session, other: Session, document: str, compared: Compared) -> None:
     """Raises LogsDiffer where two servers have different operations of one id. A server that isn't asked for `chains`, as an older one,
-    says so later by what it refuses, or by what it shows."""
+    says so later by what it refuses, or by what it shows. Raises Away where one was killed meanwhile, behind a hub: what differs by that
+    is no difference."""
     fronts = one.front(document), other.front(document)
     found = first_difference(of_session(one, document), of_session(other, document), *fronts, compared)
-    if found is not None:
-        raise LogsDiffer(*found)
+    if found is None:
+        return
+    now = one.front(document), other.front(document)
+    here: Behind = lambda front: one.operations(document, front)
+    there: Behind = lambda front: other.operations(document, front)
+    if not all(map(has_all, now, fronts)) or not are_two(here, there, *now, found):
+        compared.forget()
+        raise Away(f"{document}: a server has lost what it had a moment ago: exchange again")
+    raise LogsDiffer(*found)
 
 
 def exchange(one: Session, other: Session, document: str, report: Report = silent) -> Tuple[int, List[RefusedId]]:

@@ -16,7 +16,8 @@ import signal
 import time
 from typing import Any, Awaitable, Callable, Dict, Iterable, List, Optional, Sequence, Set, Tuple
 
-from .chains import AskSoon, Compared, LogsDiffer, Piece, can_ask, first_difference_soon, of_aio_session
+from .chains import (AskSoon, Compared, Difference, LogsDiffer, Piece, can_ask, first_difference_soon, has_all, is_beginning,
+                     of_aio_session)
 from .limits import SIGN_SECONDS
 from .link import Link, link_to
 from .notes import Notes
@@ -25,9 +26,10 @@ from .operation_log import Known, Listener, Log, Source
 from .protocol import NAME_USED_TWICE
 from .pull import pull
 from .relay_health import pages
+from .replies import page_in
 from .troubles import Troubles
-from .wire import (Away, Chain, Front, Lost, Misbehaved, Operation, Refused, covers, decoded, decoded_reply, encoded, host_and_port,
-                   is_integer, pairs_of, refusal)
+from .wire import (PAGE, Away, Chain, Front, Lost, Misbehaved, Operation, Refused, covers, decoded, decoded_reply, encoded,
+                   host_and_port, is_integer, pairs_of, refusal)
 
 # How much is delivered before the replies are awaited, in bytes.
 CHUNK = 1 << 20
@@ -128,7 +130,8 @@ class Place(Listener):
 
     async def compare(self, front: Front) -> None:
         """Raises LogsDiffer where the server, which has all of a front, has other operations of it than the log has of another server.
-        What the log has of who can't be asked is contested: each server judges it."""
+        What the log has of who can't be asked is contested: each server judges it. Raises Lost where a hub's server was killed since
+        it had all of that."""
         link, log = of_aio_session(self.link, self.log.name), self.log
         if self._can_ask is None:
             self._can_ask = await can_ask(link)
@@ -137,9 +140,26 @@ class Place(Listener):
             found = await first_difference_soon(_of_log(log), link, here, front, self._compared)
             if found is None:
                 break
+            await self._check_loss(front, found)
             self._judge(*found)
         for replica, counter in self._compared.same.items():
             self._note_same(replica, counter)
+
+    async def _check_loss(self, before: Front, found: Difference) -> None:
+        """Raises Lost where the server has less than it had before, or has the same as the log by now where digests differed: what
+        it lacked when it was asked for digests is no difference."""
+        now = await self.link.front(self.log.name)
+        if not has_all(now, before) or not await self._has_another(now, found):
+            raise Lost(f"{self.log.name}: the server has lost what it had a moment ago")
+
+    async def _has_another(self, now: Front, found: Difference) -> bool:
+        """Whether the server, which has this front, has another operation than the log where their digests differed."""
+        if is_beginning(found):
+            return True
+        front = {**now, found.replica: found.counter - 1}
+        page = page_in(await self.link.ask("ops", self.log.name, pairs_of(front), PAGE), front)
+        there = next((it for it in page if it[1][1] == found.replica), None)
+        return there is not None and encoded(there) not in self.log.at
 
     def _judge(self, replica: str, counter: int) -> None:
         """Raises LogsDiffer where another server has what the log has, and this one hasn't."""

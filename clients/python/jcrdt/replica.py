@@ -374,7 +374,8 @@ class Replica:
         such a copy may be about to send more, it waits, up to 5 s behind the last one.
 
         Raises Differs where the server has other operations of one id than this replica, its own or another's: nothing was exchanged
-        then. At a new session all is compared, later on what has come to both.
+        then. At a new session all is compared, later on what has come to both. Raises Away where a hub's server was killed while it was
+        compared: what it lost is no difference.
         Otherwise it goes on past what is refused, here or there, and raises that at last: Differs where two have one name, else
         Refused. Raises what `Session` raises, too; what was exchanged by then stays, and a later call goes on. That is Renewed where a
         hub has renewed the document: `renew` goes on there."""

@@ -4,10 +4,10 @@
         me.put([0, "title"], "Plan")
         me.save()               # returns once it is on disk
 
-A tab behind the names says that a program has the file open, a space that it was closed. A line `["session",WORD]` is before what
-was made in one opening. One store at a time has a file, whatever name or link leads there: a second one raises Busy, in this process or
-in another. The system gives the lock back when the process ends, also by a kill. A program in JavaScript doesn't see this lock, nor
-this one that.
+A tab behind the names says that a program has the file open, a space that it was closed. A line `["session",WORD,PLACE]` is before what
+was made in one opening, and says which file it was: so a program in JavaScript goes on with a copy under another name. One store at
+a time has a file, whatever name or link leads there: a second one raises Busy, in this process or in another. The system gives the lock
+back when the process ends, also by a kill. A program in JavaScript doesn't see this lock, nor this one that.
 """
 
 import contextlib
@@ -18,9 +18,10 @@ import secrets
 import stat
 import threading
 import weakref
-from typing import Iterator, List, NamedTuple, Optional, Sequence, Tuple
+from typing import Dict, Iterator, List, NamedTuple, Optional, Sequence, Tuple
 
 from .copies import Session, counter_of, sessions_among
+from .remaking import name_of
 from .replaced_file import sync_folder
 from .wire import NAME, encoded
 
@@ -37,8 +38,8 @@ class Busy(OSError):
 
 class Parts(NamedTuple):
     """What a file has: the names of replica and document, the lines of operations, others, and the size of all in bytes. A last
-    line without an end was cut off in writing: it was never sent, and is in none. `mark_at` is the place of the mark, None in a file of
-    an older package; `is_open` is whether that says so."""
+    line without an end was cut off in writing: it was never sent, and is in none. `said` has the lines of openings, by their words.
+    `mark_at` is the place of the mark, None in a file of an older package; `is_open` is whether that says so."""
 
     name: Optional[str]
     document: Optional[str]
@@ -46,6 +47,7 @@ class Parts(NamedTuple):
     unread: List[str]
     size: int
     sessions: List[Session]
+    said: Dict[str, str]
     mark_at: Optional[int]
     is_open: bool
 
@@ -68,6 +70,7 @@ class Store:
         self._size, self._has_more = 0, False
         self._mark_at: Optional[int] = None
         self.session, self._is_said = fresh_name("at"), False
+        self._said: Dict[str, str] = {}
         self.is_new = self.is_doubtful = False
         _STORES.add(self)
         try:
@@ -91,7 +94,7 @@ class Store:
         self.name, self.is_new = found.name or fresh_name(word), found.name is None
         self.lines, self.unread, self.is_doubtful = found.lines, found.unread, found.is_open
         last = max((counter_of(line, self.name) for line in self.lines), default=0)
-        self.sessions = [*found.sessions, (last, self.session)]
+        self.sessions, self._said = [*found.sessions, (last, self.session)], found.said
         if found.mark_at is None:
             self._replace(self.name, self.lines, found.name is None or bool(found.unread))
             return
@@ -129,7 +132,7 @@ class Store:
         with self._lock:
             self._check()
             self._cut()
-            session = [] if self._is_said else [_session_line(self.session)]
+            session = [] if self._is_said else [_session_line(self.session, self._file)]
             data = "".join(f"{line}\n" for line in [*session, *lines]).encode()
             self._has_more = True
             try:
@@ -164,11 +167,11 @@ class Store:
 
     def _replace(self, name: str, lines: Sequence[str], keeps_old: bool) -> None:
         head = encoded(["replica", name, self.document])
-        data = b"".join([head, OPEN, b"\n", *(f"{line}\n".encode() for line in self._with_sessions(name, lines))])
         new = os.open(f"{self.path}.new", os.O_RDWR | os.O_CREAT | os.O_TRUNC | os.O_CLOEXEC, 0o666)
         try:
             fcntl.flock(new, fcntl.LOCK_EX | fcntl.LOCK_NB)
             os.fchmod(new, stat.S_IMODE(os.fstat(self._file).st_mode))
+            data = b"".join([head, OPEN, b"\n", *(f"{line}\n".encode() for line in self._with_sessions(name, lines, new))])
             _write_all(new, data, 0)
             os.fsync(new)
             if keeps_old and os.fstat(self._file).st_size:
@@ -181,16 +184,17 @@ class Store:
             raise
         _give_back(self._file)
         self._file, self._size, self._has_more, self._mark_at = new, len(data), False, len(head)
+        self._is_said = True
         sync_folder(os.path.dirname(self.path))
 
-    def _with_sessions(self, name: str, lines: Sequence[str]) -> Iterator[str]:
-        """The lines, and where openings began that have edited."""
-        left = self.sessions[:None if self._is_said else -1]
+    def _with_sessions(self, name: str, lines: Sequence[str], file: int) -> Iterator[str]:
+        """The lines, and where openings began that have edited, also this one: it says which file this is."""
+        left = [(after, self._said.get(word) or _session_line(word, file)) for after, word in self.sessions]
         for line in lines:
             while left and left[0][0] < counter_of(line, name):
-                yield _session_line(left.pop(0)[1])
+                yield left.pop(0)[1]
             yield line
-        yield from (_session_line(word) for _, word in left)
+        yield from (it for _, it in left)
 
 
 # The stores of this process.
@@ -224,21 +228,31 @@ def parts_of(data: bytes) -> Optional[Parts]:
     lines: List[str] = []
     unread: List[str] = []
     words: List[Tuple[int, str]] = []
+    said: Dict[str, str] = {}
     for line in filter(None, rest if name else [first, *rest]):
         word = _session_of(line)
         if word is not None:
             words.append((len(lines), word))
+            said[word] = line
         else:
             (lines if _is_operation(line) else unread).append(line)
     # The first line may have been cut off, too.
     if not name and not lines and (size or not HEAD.startswith(data[:len(HEAD)])):
         return None
     mark_at = data.index(b"\n") - 1 if name and first.endswith(("\t", " ")) else None
-    return Parts(name, document, lines, unread, size, sessions_among(lines, name or "", words), mark_at, first.endswith("\t"))
+    return Parts(name, document, lines, unread, size, sessions_among(lines, name or "", words), said, mark_at, first.endswith("\t"))
 
 
-def _session_line(word: str) -> str:
-    return encoded(["session", word]).decode()
+def _session_line(word: str, file: int) -> str:
+    return encoded(["session", word, _place_of(file)]).decode()
+
+
+def _place_of(file: int) -> str:
+    """Which file it is, as JavaScript's `fileStore` says it: another text for its copy, and the same one where it was moved."""
+    machine = b""
+    with contextlib.suppress(OSError), open("/etc/machine-id", "rb") as it:
+        machine = it.read().strip()
+    return name_of("file", f"{machine.decode(errors='replace')} {os.fstat(file).st_ino}")
 
 
 def _session_of(line: str) -> Optional[str]:

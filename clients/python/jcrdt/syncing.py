@@ -4,11 +4,11 @@ from itertools import zip_longest
 from typing import TYPE_CHECKING, Iterator, List, NamedTuple, Optional, Tuple
 
 from .chains import Compared as ComparedLogs
-from .chains import LogsDiffer, first_difference, of_replica, of_session
+from .chains import Behind, Difference, LogsDiffer, are_two, first_difference, has_all, is_same, of_replica, of_session
 from .copies import Own
 from .protocol import NAME_USED_TWICE, NUMBERS
 from .session import Session
-from .wire import Front, Id, Lost, Operation, Refused
+from .wire import Away, Front, Id, Lost, Operation, Refused
 
 if TYPE_CHECKING:
     from .replica import Replica
@@ -38,12 +38,13 @@ class Differs(LogsDiffer):
 
 class Compared(NamedTuple):
     """The server's operations of the own name beside those that are here: up to which counter they are the same, the first one that
-    differs, the first one that wasn't sent from here, and up to which one a copy of the store says that it has them."""
+    differs, the first one that wasn't sent from here, up to which one a copy of the store says that it has them, and the last one."""
 
     same: int
     differs: Optional[int]
     unsent: Optional[int]
     copied: int
+    last: int
 
 
 class Exchange:
@@ -54,6 +55,9 @@ class Exchange:
         self.replica, self.client, self.document, self.name = replica, client, document, replica.name
         self.own, self.place, self.logs = own, (client.address, document), logs or ComparedLogs()
         self.came = self.went = 0
+        # What was heard of copies, and behind which operations they may say more.
+        self.said = 0
+        self.heard: Front = {}
         # Whether the server has logged an own operation in this exchange; and whether another program sends such ones meanwhile.
         self.is_logging = self.is_disturbed = False
         self.refused: List[Tuple[Id, Refused]] = []
@@ -77,6 +81,8 @@ class Exchange:
         copy of its store that was made while it was open. Waits while such a copy may be about to send more."""
         while True:
             found = self.compared(theirs)
+            if found.last < theirs.get(self.name, 0):
+                raise self.has_lost()
             is_ours = self.own.is_ours and found.same > self.own.restored
             sure = found.same if is_ours else min(found.same, found.copied)
             self.own.sure = max(sure, self.own.sure)
@@ -101,7 +107,20 @@ class Exchange:
         self.logs.look(front, theirs)
         found = first_difference(here, there, front, theirs, self.logs)
         if found is not None:
+            self.check_loss(theirs, found)
             raise Differs(found.replica, found.counter, found.replica == self.name)
+
+    def check_loss(self, before: Front, found: Difference) -> None:
+        """Raises Away where the server has less than it had before, or had less when it was asked for digests, and got it again: it was
+        killed in between. What differs by that is no difference."""
+        now = self.client.front(self.document)
+        there: Behind = lambda front: self.client.operations(self.document, front)
+        if not has_all(now, before) or not are_two(self.replica.operations, there, self.replica.front(), now, found):
+            raise self.has_lost()
+
+    def has_lost(self) -> Away:
+        self.logs.forget()
+        return Away(f"{self.document}: the server has lost what it had a moment ago: sync again")
 
     def compared(self, theirs: Front) -> Compared:
         """Compares the last own operation that was the same before, and all behind it."""
@@ -110,17 +129,30 @@ class Exchange:
         mine = (it for it in self.own_behind(same) if it[1][0] <= last)
         others = self.client.operations(self.document, {**theirs, self.name: same})
         there = (it for it in others if it[1][1] == self.name and it[1][0] <= last)
-        differs, unsent, copied = None, None, 0
+        differs, unsent, copied, there_last = None, None, 0, 0
         for one, other in zip_longest(mine, there):
             if other is not None:
-                copied = max(copied, self.own.copied(other))
+                there_last = other[1][0]
+                copied = max(copied, self.own.copied(other, self.name))
             if other is not None and other[1][0] > self.own.sent:
                 unsent = unsent or other[1][0]
-            if differs is None and one == other:
+            if differs is None and one is not None and other is not None and is_same(one, other):
                 same = one[1][0]
             elif differs is None:
                 differs = min(it[1][0] for it in (one, other) if it is not None)
-        return Compared(same, differs, unsent, copied)
+        return Compared(same, differs, unsent, copied if unsent is None else max(copied, self.hear()), there_last)
+
+    def hear(self) -> int:
+        """Up to which own operation copies of the store say that they have them under names of their own."""
+        sides: Tuple[Behind, Behind] = (self.replica.operations, lambda front: self.client.operations(self.document, front))
+        for side in sides:
+            for it in side(dict(self.heard)):
+                counter, maker = it[1]
+                self.heard[maker] = counter
+                # What is of this name says that this one is a copy, or is heard where it is compared.
+                if maker != self.name:
+                    self.said = max(self.said, self.own.copied(it, self.name))
+        return self.said
 
     def forked_at(self) -> Optional[int]:
         """From which own counter on the server has, or may have, operations of another of this name."""
@@ -142,7 +174,7 @@ class Exchange:
             counter, replica = operation[1]
             if self.logs.lacks(operation, front):
                 # It came there since the front was read.
-                self.check_all({**theirs, **dict(operation[2])})
+                self.check_all({**theirs, **{name: max(last, theirs.get(name, 0)) for name, last in operation[2]}})
             if operation in barred:
                 continue
             try:

@@ -11,7 +11,7 @@ import shutil
 import subprocess
 import threading
 from pathlib import Path
-from typing import Any, Callable, Iterator, List, Optional, Tuple
+from typing import Any, Callable, Iterator, List, Optional, Sequence, Tuple
 
 import pytest
 
@@ -19,7 +19,7 @@ from conftest import SECONDS, TOP, Server
 
 import jcrdt
 from jcrdt import replica as replica_module
-from jcrdt.copies import Clock
+from jcrdt.copies import Clock, Own
 from jcrdt.replica import Replica
 from jcrdt.session import Session
 from jcrdt.store import Store, fresh_name
@@ -441,6 +441,21 @@ def test_what_says_so_is_stored_before_the_mark_goes(client: Session, tmp_path: 
     assert (tmp_path / "store").read_text().splitlines()[0].endswith("\t")
 
 
+def test_which_copies_say_so() -> None:
+    """One under a name of its own says so before it knows of others. One of another opening has others, however alike."""
+    own = Own(5, True, False, [(0, "at-1"), (3, "at-2")])
+
+    def copied(what: str, maker: str = "copy", known: Sequence[Any] = (), word: str = "delete") -> int:
+        return own.copied(["op", [2, maker], list(known), [[["m", 0]], f"jcrdt copy of {what}"], [word]], "ada")
+
+    assert copied("ada 3 at-9 at-1") == copied("ada 3 at-9") == copied("ada 3") == 3
+    assert copied("ada 4 at-9 at-2") == copied("ada 4 at-9 at-2", known=[["copy", 1]]) == 4
+    assert copied("ada 3 at-9 at-1", "ada", [["ada", 1], ["bob", 1]]) == 3
+    assert copied("ada 3 at-9 at-1", known=[["bob", 1]]) == copied("ada 3 at-9 at-1", known=[["bob", 1], ["copy", 1]]) == 0
+    assert copied("ada 3 at-9 at-2") == copied("ada 4 at-9 at-1") == copied("adam 3") == copied("bob 3") == copied("ada x") == 0
+    assert copied("ada 3", word="assign") == 0
+
+
 JAVASCRIPT = """
 import { createInterface } from "node:readline";
 import { fileStore } from "TOP/clients/js/file_store.mjs";
@@ -482,12 +497,15 @@ class OfJavaScript:
 
 
 @pytest.mark.skipif(shutil.which("node") is None, reason="node isn't here")
-@pytest.mark.parametrize("original, first", itertools.product(["python", "javascript"], [0, 1]))
+@pytest.mark.parametrize("original, first", itertools.product(["python", "reopened", "javascript"], [0, 1]))
 def test_copies_in_both_languages(client: Session, tmp_path: Path, original: str, first: int) -> None:
     """One goes on with a copy of what the other one has open: both mean the same by their own operations."""
     store, copy = tmp_path / "store", tmp_path / "copy"
     me = begun(store, client)
-    if original == "python":
+    if original != "javascript":
+        if original == "reopened":
+            me.close()
+            me.open()
         me.write("before")
         shutil.copy(store, copy)
         other = OfJavaScript(copy, client)
@@ -507,4 +525,50 @@ def test_copies_in_both_languages(client: Session, tmp_path: Path, original: str
     due = ["base", "before", "javascript", "python"], 4
     assert state(me.me) == other.ask("look") == state(client, "d", [0]) == due
     other.close()
+    me.close()
+
+
+@pytest.mark.skipif(shutil.which("node") is None, reason="node isn't here")
+@pytest.mark.parametrize("first", [0, 1])
+def test_a_closed_store_that_was_copied_goes_on_in_javascript(client: Session, tmp_path: Path, first: int) -> None:
+    """Under a name of its own: so what both edit alike, and close again before they are online, is there twice."""
+    store, copy = tmp_path / "store", tmp_path / "copy"
+    me = begun(store, client)
+    me.close()
+    shutil.copy(store, copy)
+    me.open()
+    me.write("same")
+    me.close()
+    me.open()
+    other = OfJavaScript(copy, client)
+    other.ask("write same")
+    other.close()
+    other = OfJavaScript(copy, client)
+    for number in (first, 1 - first, first, 1 - first):
+        if number:
+            other.ask("online")
+        else:
+            me.sync(client)
+    assert state(me.me) == other.ask("look") == state(client, "d", [0]) == (["base", "same", "same"], 3)
+    other.close()
+    me.close()
+
+
+@pytest.mark.skipif(shutil.which("node") is None, reason="node isn't here")
+@pytest.mark.parametrize("how", ["closed", "killed", "moved"])
+def test_the_same_file_keeps_its_name_in_javascript(client: Session, tmp_path: Path, how: str) -> None:
+    store = tmp_path / "store"
+    me = begun(store, client)
+    name = me.me.name
+    {"killed": me.kill}.get(how, me.close)()
+    if how == "moved":
+        store = store.rename(tmp_path / "moved")
+    other = OfJavaScript(store, client)
+    other.ask("write javascript")
+    assert other.ask("online") == state(client, "d", [0]) == (["base", "javascript"], 2)
+    other.close()
+    assert store.read_text().startswith(f'["replica","{name}","d"]')
+    me = Program(store)
+    me.sync(client)
+    assert (me.me.name, state(me.me)) == (name, (["base", "javascript"], 2))
     me.close()

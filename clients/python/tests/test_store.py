@@ -14,6 +14,7 @@ from conftest import PACKAGE, SECONDS
 from test_session import forked
 
 from jcrdt import replica as replica_module
+from jcrdt.remaking import name_of
 from jcrdt.replica import Replica
 from jcrdt.store import Busy, Store
 
@@ -34,6 +35,12 @@ def file_of(folder: Path, *lines: str, end: str = "\n") -> Path:
 
 def opened(path: Any, document: str = "notes") -> Store:
     return Store(str(path), document, "ada")
+
+
+def session_line(store: Store, path: Path) -> str:
+    """The line by which an opening says its word, and which file it is, by the machine and the inode."""
+    machine = Path("/etc/machine-id").read_text().strip() if os.path.exists("/etc/machine-id") else ""
+    return '["session","%s","%s"]' % (store.session, name_of("file", f"{machine} {os.stat(path).st_ino}"))
 
 
 def text_of(path: Path) -> str:
@@ -64,20 +71,33 @@ def test_a_file_says_whether_it_was_closed_and_when_it_was_edited(tmp_path: Path
             assert (store.is_new, store.is_doubtful, store.sessions[-1]) == (False, False, ((1, 2, 2)[number], store.session))
             if lines:
                 store.append(lines)
-                words.append(f'["session","{store.session}"]')
+                words.append(session_line(store, path))
         assert path.read_text().splitlines()[0] == f"{HEAD} "
     assert path.read_text() == "\n".join([f"{HEAD} ", FIRST, words[0], SECOND, words[1], THIRD, ""])
     with opened(path) as store:
         assert [after for after, _ in store.sessions] == [1, 2, 3]
         (tmp_path / "copy").write_text(path.read_text())
         store.replace("ada-1", store.lines)
-        assert path.read_text() == "\n".join([f"{HEAD}\t", FIRST, words[0], SECOND, words[1], THIRD, ""])
+        # It is another file, and the last line says so.
+        assert path.read_text() == "\n".join([f"{HEAD}\t", FIRST, words[0], SECOND, words[1], THIRD, session_line(store, path), ""])
         store.replace("ada-2", store.lines)
         assert store.is_new and store.sessions == [(0, store.session)]
-        assert path.read_text().splitlines()[1:] == [FIRST, SECOND, THIRD, f'["session","{store.session}"]']
+        assert path.read_text().splitlines()[1:] == [FIRST, SECOND, THIRD, session_line(store, path)]
     with opened(tmp_path / "copy") as store:
         assert store.is_doubtful
     assert (tmp_path / "copy").read_text().splitlines()[0] == f"{HEAD}\t"
+
+
+def test_lines_of_openings_stay_as_they_are(tmp_path: Path) -> None:
+    """Those of JavaScript, which may name the name before, and those of older packages."""
+    words = ['["session","at-1"]', '["session","at-2","file-2","old-1"]', '["session","at-3","file-3"]']
+    path = file_of(tmp_path, f"{HEAD} ", words[0], FIRST, words[1], SECOND, words[2])
+    with opened(path) as store:
+        assert store.unread == [] and [word for _, word in store.sessions] == ["at-1", "at-2", "at-3", store.session]
+        store.replace("ada-1", [FIRST, SECOND])
+        assert path.read_text().splitlines()[1:] == [words[0], FIRST, words[1], SECOND, words[2], session_line(store, path)]
+        store.append([THIRD])
+        assert path.read_text().splitlines()[-2:] == [session_line(store, path), THIRD]
 
 
 def test_a_second_store_of_one_file_is_busy_and_named(tmp_path: Path) -> None:
