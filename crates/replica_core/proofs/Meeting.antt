@@ -1,7 +1,7 @@
 -- How the expected outcome comes about.
-use Rattle.std.proofs.Common.{◌≡◌, ◌<◌, ◌≤◌, inl, inr, ℕ, suc, le-leb, leb-true, arith, List, [], ◌∷◌, length, nat_le, Bool, true, false, true≢false, not, ◌&&◌, bytes_eq, Option, Some, None, Result, Ok, Err, if◌then◌else◌, refl, sym, ap, subst, ◌∙◌}
+use Rattle.std.proofs.Common.{◌≡◌, ◌<◌, ◌≤◌, inl, inr, ℕ, suc, le-leb, leb-true, arith, List, [], ◌∷◌, length, nat_le, Bool, true, false, true≢false, not, ◌&&◌, is_ok, bytes_eq, Option, Some, None, Result, Ok, Err, if◌then◌else◌, refl, sym, ap, subst, ◌∙◌}
 use Rattle.std.specs.Prelude.{⊤, IfOk, IfErr, OnErr, is_some}
-use Rattle.std.proofs.lemmas.Bool.{false_from_ne_true, and_parts}
+use Rattle.std.proofs.lemmas.Bool.{false_from_ne_true, not-true, and_parts}
 use Rattle.doc_api.specs.Words.{Refusal, NoMemory, Op}
 use Rattle.std.specs.Option.{option_map}
 use Rattle.json_scalar.specs.declared.refusal.Refusal.TheVariants.{IdConflict, OwnName, HeldFull}
@@ -119,31 +119,27 @@ module _ (r : Replica) (op : Op) (new : find_id r.log op.id ≡ None) (unheld : 
 -- ---- what is logged
 
 abbrev by_all : Bool → Bool → Bool → Bool → Bool → Bool → Bool → Reply → Reply → Expected → Op → Expected
-by_all equal has equal_held has_held own ready full known kept due op =
+by_all equal has equal_held has_held own ready full one other due op =
     first_row
-    ((equal, replied known) ∷ (has, no IdConflict) ∷ (equal_held, replied kept) ∷ (has_held, no IdConflict) ∷ (own, no OwnName) ∷ (not ready && full, no HeldFull) ∷ (not ready, held op) ∷ [])
+    ((equal, replied one) ∷ (has, no IdConflict) ∷ (equal_held, replied other) ∷ (has_held, no IdConflict) ∷ (own, no OwnName) ∷ (not ready && full, no HeldFull) ∷ (not ready, held op) ∷ [])
     due
 
 -- it has a new id, is another's, is ready, and has no cause against it
-logged_only : (equal has equal_held has_held own ready full : Bool) (known kept : Reply) (due : Expected) (op : Op)
-    → by_all equal has equal_held has_held own ready full known kept due op ≡ logged op
+logged_only : (equal has equal_held has_held own ready full : Bool) (one other : Reply) (due : Expected) (op : Op)
+    → by_all equal has equal_held has_held own ready full one other due op ≡ logged op
     → (has ≡ false) × (has_held ≡ false) × (own ≡ false) × (ready ≡ true) × (due ≡ logged op)
-logged_only true has equal_held has_held own ready full known kept due op e = absurd (cc)
-logged_only false true equal_held has_held own ready full known kept due op e = absurd (cc)
-logged_only false false true has_held own ready full known kept due op e = absurd (cc)
-logged_only false false false true own ready full known kept due op e = absurd (cc)
-logged_only false false false false true ready full known kept due op e = absurd (cc)
-logged_only false false false false false false true known kept due op e = absurd (cc)
-logged_only false false false false false false false known kept due op e = absurd (cc)
-logged_only false false false false false true full known kept due op e = (refl, refl, refl, refl, e)
+logged_only true has equal_held has_held own ready full one other due op e = absurd (cc)
+logged_only false true equal_held has_held own ready full one other due op e = absurd (cc)
+logged_only false false true has_held own ready full one other due op e = absurd (cc)
+logged_only false false false true own ready full one other due op e = absurd (cc)
+logged_only false false false false true ready full one other due op e = absurd (cc)
+logged_only false false false false false false true one other due op e = absurd (cc)
+logged_only false false false false false false false one other due op e = absurd (cc)
+logged_only false false false false false true full one other due op e = (refl, refl, refl, refl, e)
 
 unlike_none : (op : Op) (o : Option Op) → is_some o ≡ false → is_same op o ≡ false
 unlike_none op None h = refl
 unlike_none op (Some x) h = absurd (true≢false h)
-
-is_false : (b : Bool) → not b ≡ true → b ≡ false
-is_false true h = absurd (true≢false (sym h))
-is_false false h = refl
 
 without_cause : (cause : Result ⊤ Refusal) (op : Op) → is_ok cause ≡ true → expected_by_cause cause op ≡ logged op
 without_cause (Ok x) op h = refl
@@ -155,16 +151,16 @@ no_cause (Err e) op h = absurd (cc)
 
 pub to_log : (r : Replica) (op : Op) → is_to_log r op ≡ true → expected_of_delivery r op ≡ logged op
 to_log r op h =
-    let new = and_parts (not (is_logged r.log op.id)) _ h in
-    let unheld = and_parts (not (is_logged r.held op.id)) _ new.1 in
-    let others = and_parts (not (bytes_eq op.id.replica r.name)) _ unheld.1 in
-    let ready = and_parts (is_ready op r.log) _ others.1 in
-    let none : is_some (find_id r.log op.id) ≡ false = sym (is_logged-find_id r.log op.id) ∙ is_false _ new.0 in
-    let none_held : is_some (find_id r.held op.id) ≡ false = sym (is_logged-find_id r.held op.id) ∙ is_false _ unheld.0 in
-    let other = is_false _ others.0 in
+    let ready = and_parts _ (is_ok (cause_of op r.log)) h in
+    let others = and_parts _ (is_ready op r.log) ready.0 in
+    let unheld = and_parts _ (not (bytes_eq op.id.replica r.name)) others.0 in
+    let new = and_parts (not (is_logged r.log op.id)) (not (is_logged r.held op.id)) unheld.0 in
+    let none : is_some (find_id r.log op.id) ≡ false = sym (is_logged-find_id r.log op.id) ∙ not-true _ new.0 in
+    let none_held : is_some (find_id r.held op.id) ≡ false = sym (is_logged-find_id r.held op.id) ∙ not-true _ new.1 in
+    let other = not-true _ unheld.1 in
     let equal = unlike_none op (find_id r.log op.id) none in
     let equal_held = unlike_none op (find_id r.held op.id) none_held in
-    (λ i. by_all (equal i) (none i) (equal_held i) (none_held i) (other i) (ready.0 i) (nat_le most_held (length r.held)) reply.Known (reply.Held (missing op r.log))
+    (λ i. by_all (equal i) (none i) (equal_held i) (none_held i) (other i) (others.1 i) (nat_le most_held (length r.held)) reply.Known (reply.Held (missing op r.log))
     (expected_by_cause (cause_of op r.log) op) op)
     ∙ without_cause (cause_of op r.log) op ready.1
 
