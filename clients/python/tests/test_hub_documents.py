@@ -14,6 +14,7 @@ from typing import Any, Callable, Iterator, List, Tuple
 import pytest
 
 from conftest import PROGRAM, SECONDS, TOP, of_either_name, tool
+from test_mixed_copies import Either
 from test_running_copies import OfJavaScript, Program, state
 
 import jcrdt
@@ -481,6 +482,31 @@ def test_a_copy_in_a_later_generation_says_so(hub: Hub, tmp_path: Path) -> None:
             assert found == (["base", "before", "copy", "first"], 4)
         for it in (me, copy):
             it.close()
+
+
+@needs_library
+@pytest.mark.parametrize("languages", itertools.product(["python", "javascript"], repeat=2), ids="-".join)
+def test_copies_in_both_languages_in_a_later_generation(hub: Hub, tmp_path: Path, languages: Tuple[str, str]) -> None:
+    with opened(hub) as client:
+        client.put("d", [0], {"list": ["base"], "votes": jcrdt.Counter(1)})
+        hub.desk.renew("d")
+        original = Either(tmp_path / "0", client, languages[0])
+        original.sync()
+        original.write("first")
+        original.sync()
+        original.end("closed")
+        original.open(languages[0])
+        original.write("before")
+        name = original.name
+        shutil.copy(tmp_path / "0", tmp_path / "1")
+        copy = Either(tmp_path / "1", client, languages[1])
+        copy.write("copy")
+        for it in (copy, original, copy):
+            it.sync()
+        assert original.name == name != copy.name
+        assert original.state == copy.state == state(client, "d", [0]) == (["base", "before", "copy", "first"], 4)
+        original.end("closed")
+        copy.end("closed")
 
 
 @needs_library

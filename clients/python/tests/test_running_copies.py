@@ -551,7 +551,7 @@ class OfJavaScript:
         assert self.child.stdin is not None and self.child.stdout is not None
         self.child.stdin.write(f"{line}\n")
         texts, votes = json.loads(self.child.stdout.readline())
-        return sorted(texts), votes
+        return sorted(texts or []), votes
 
     def close(self) -> None:
         self.child.communicate(timeout=SECONDS)
