@@ -7,7 +7,8 @@ usage: notes.py FILE                      (shows the notes)
        notes.py FILE sync ADDRESS         (exchanges with the document `notes` of a server, as 127.0.0.1:7000)
 
 FILE has the names in its first line, and below it the operations, one a line. Each is on disk before it is sent. One program at a
-time has FILE: another one waits for it, up to 10 seconds. A copy of it, or an older one, goes on under a new name at its next sync."""
+time has FILE: another one waits for it, up to 10 seconds. A copy of it has a name of its own. An older one that was written over it goes on
+under a new name at its next sync."""
 
 import os
 import sys

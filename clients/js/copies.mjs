@@ -6,8 +6,9 @@
    however alike. */
 
 import { operationsOf } from "./followers.mjs";
+import { beginningOf } from "./generations.mjs";
 import { print } from "./json.mjs";
-import { isFront, isId } from "./operations.mjs";
+import { frontPairs, isFront, isId, nextCounter } from "./operations.mjs";
 
 /** @typedef {import("./exchange.mjs").Core} Core */
 /** @typedef {import("./operations.mjs").Cursor} Cursor */
@@ -28,12 +29,27 @@ const WORDS = "jcrdt copy of";
 export const copyPlace = (name, counter, session, origin) =>
   [0, [WORDS, name, counter, session, origin].filter((it) => it !== "").join(" ")];
 
-/** Operations that say so at these places, before all others of a name.
+/** Operations that say so at these places, before all others of a name. They know of what began their
+ *  generation: without that a hub takes them for those of another one.
  *  @param {string} name
  *  @param {Cursor[]} places
+ *  @param {Iterable<[string, number]>} front
  *  @returns {Operation[]} */
-export const sayings = (name, places) => places.map(([, key], at) =>
-  ["op", [at + 1, name], at > 0 ? [[name, at]] : [], [[["m", 0]], /** @type {string} */ (key)], ["delete"]]);
+export function sayings(name, places, front) {
+  const known = new Map(beginningOf(front).map(([maker]) => [maker, 1]));
+  return places.map(([, key]) => {
+    const before = frontPairs(known);
+    known.set(name, nextCounter(before));
+    return ["op", [nextCounter(before), name], before, [[["m", 0]], /** @type {string} */ (key)], ["delete"]];
+  });
+}
+
+/** How many operations of a log come before what says so: those up to the beginning of the generation.
+ *  @param {Operation[]} log */
+export const placeOfSayings = (log) => log.findIndex(({ 1: id }) => isBeginning([id[1], id[0]])) + 1;
+
+/** @param {[string, number]} pair */
+const isBeginning = ([maker, counter]) => counter === 1 && beginningOf([[maker, counter]]).length > 0;
 
 /** Whether an operation says that something is a copy.
  *  @param {Operation} op */
@@ -47,7 +63,8 @@ export const isSaying = ([, , , [path, key], [word]]) =>
  *  @param {number} count
  *  @returns {Generator<Operation>} */
 export function* sayingsFirst(operations, name, count) {
-  const isFirst = (/** @type {Operation} */ op) => op[1][1] === name && op[1][0] <= count && isSaying(op);
+  const isFirst = (/** @type {Operation} */ op) =>
+    op[1][1] === name && op[1][0] <= count + beginningOf(op[2]).length && isSaying(op);
   if (count > 0) for (const op of operations()) if (isFirst(op)) yield op;
   for (const op of operations()) if (!isFirst(op)) yield op;
 }
@@ -61,7 +78,7 @@ function copiedBy(op, name, sessionOf) {
   const [path, key] = op?.[3] ?? [];
   if (path?.length !== 1 || typeof key !== "string" || op[4]?.[0] !== "delete") return 0;
   // One that was made again speaks for a copy that sends nothing more under this name.
-  const isAhead = isFront(op[2]) && op[2].every(([maker]) => maker === op[1][1]);
+  const isAhead = isFront(op[2]) && op[2].every((it) => it[0] === op[1][1] || isBeginning(it));
   if (op[1][1] !== name && !isAhead) return 0;
   const start = `${WORDS} ${name} `;
   if (!key.startsWith(start)) return 0;

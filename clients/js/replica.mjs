@@ -16,7 +16,7 @@
    Log and tree are the engine's: the proved replica, jcrdt.wasm. */
 
 import { CLOCK } from "./clock.mjs";
-import { copyPlace, sayings } from "./copies.mjs";
+import { copyPlace, placeOfSayings, sayings } from "./copies.mjs";
 import { Refused, refusalOf } from "./errors.mjs";
 import { Events } from "./events.mjs";
 import { Exchange } from "./exchange.mjs";
@@ -275,14 +275,15 @@ export class Replica {
   }
 
   /** Says of each name before this one, once, up to where this may be a copy. These operations are the
-   *  first ones of this name, and know of nothing: so they are at a server before what they are about.
-   */
+   *  first ones of this name, and know of nothing but of the beginning of their generation: so they are at
+   *  a server before what they are about. */
   #sayFormers() {
     if (this.formers.size === 0 || this.#front.has(this.#name)) return;
     const places = [...this.formers.keys()].map((name) => this.#placeOfCopy(name));
-    const operations = sayings(this.#name, places);
+    const operations = sayings(this.#name, places, this.#front);
     const lines = operations.map(print);
-    const all = [...lines, ...this.lines().slice(1)];
+    const all = this.lines().slice(1);
+    all.splice(placeOfSayings([...this.operations()]), 0, ...lines);
     this.#use(new LastingEngine(this.#open, this.#name, all), all.length);
     this.#events.batch(() => {
       this.#events.note(operations);

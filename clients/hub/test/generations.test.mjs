@@ -279,6 +279,36 @@ suite("generations", { concurrency: true }, () => {
     for (const it of both) equal(textOf(it), "axyzb");
   });
 
+  test("a copy in a later generation sends what it has, and the original knows its own", async () => {
+    const hub = await startDataHub();
+    const files = [join(ROOM, "later.notes"), join(ROOM, "later-copy.notes")];
+    const openAt = async (store) => {
+      const it = await Provider.open({ document: "d", at: hub.lines, store, word: "ada", isOnline: false });
+      atEnd(() => it.close().catch(() => {}));
+      return it;
+    };
+    const first = await provider(hub.lines, "ada", fileStore(files[0]));
+    first.replica.put([0, "text"], [..."ab"]);
+    await first.synced(240);
+    const generation = await renew(hub.folder);
+    await until("it follows", () => isIn(generation)(first));
+    await first.synced(240);
+    await first.close();
+    const ada = await openAt(fileStore(files[0])); // it has sent nothing since
+    ada.replica.splice([0, "text"], 1, 0, "x");
+    await until("it is stored", () => readFileSync(files[0], "utf8").includes('"x"'));
+    cpSync(files[0], files[1]);
+    const copy = await openAt(fileStore(files[1]));
+    const { name } = ada.replica;
+    copy.replica.splice([0, "text"], 0, 0, "c");
+    for (const it of [copy, ada, copy]) {
+      it.goOnline();
+      await it.synced(60);
+    }
+    for (const it of [ada, copy]) equal(textOf(it), "caxb");
+    equal(ada.replica.name, name);
+  });
+
   test("copies of one store that are edited apart bring all edits over: each is there once", async () => {
     const [keeping, other] = [await startDataHub(), await startDataHub(freshFolder(), "--keep-generations", "0")];
     const ways = ["open", "closed"].flatMap((how) => [

@@ -1,3 +1,10 @@
+/** Operations that say so at these places, before all others of a name. They know of what began their
+ *  generation: without that a hub takes them for those of another one.
+ *  @param {string} name
+ *  @param {Cursor[]} places
+ *  @param {Iterable<[string, number]>} front
+ *  @returns {Operation[]} */
+export function sayings(name: string, places: import("./operations.mjs").Cursor[], front: Iterable<[string, number]>): import("./operations.mjs").Operation[];
 /** Operations with the first ones of a name in front, which say of so many names that they are copied. A
  *  file has them behind what they are about.
  *  @param {() => Iterable<Operation>} operations
@@ -6,7 +13,7 @@
  *  @returns {Generator<Operation>} */
 export function sayingsFirst(operations: () => Iterable<import("./operations.mjs").Operation>, name: string, count: number): Generator<import("./operations.mjs").Operation>;
 export function copyPlace(name: string, counter: number, session: string, origin: string): import("./operations.mjs").Cursor;
-export function sayings(name: string, places: import("./operations.mjs").Cursor[]): import("./operations.mjs").Operation[];
+export function placeOfSayings(log: import("./operations.mjs").Operation[]): number;
 export function isSaying([, , , [path, key], [word]]: import("./operations.mjs").Operation): boolean;
 /** A server's operations of a replica's name beside the replica's own ones. */
 export class Comparison {

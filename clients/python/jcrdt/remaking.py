@@ -8,9 +8,10 @@ edited alike stays two. Else it is nobody else's, and goes under the new name of
 the same names.
 """
 
-from typing import TYPE_CHECKING, AbstractSet, Any, Callable, Dict, Iterator, List, NamedTuple, Optional, Tuple
+from typing import TYPE_CHECKING, AbstractSet, Any, Callable, Dict, Iterator, List, NamedTuple, Optional, Set, Tuple
 
 from . import wire
+from .copies import is_saying
 from .protocol import NAME_USED_TWICE
 from .session import Session
 from .wire import Front, Id, Operation, Refused, covers
@@ -35,15 +36,15 @@ class Remade(NamedTuple):
 
 class How(NamedTuple):
     """The new name; from which own counter on others have the ids; up to which own counter copies of the store may have operations, and up
-    to which the server's are this store's; the own ones that it has logged from here; the word of the opening in which an own one was
-    made; and whether the server may take what is made again."""
+    to which the server's are this store's; the own ones that it has logged from here; the word of the opening in which one was made, of
+    this name or of one before; and whether the server may take what is made again."""
 
     name: str
     forked: Optional[int]
     stored: int
     sure: int
     logged: AbstractSet[int]
-    session_of: Callable[[int], str]
+    session_of: Callable[[int, str], str]
     may_send: bool
 
 
@@ -67,11 +68,13 @@ class Remaking:
         # The name under which copies make the same.
         self._shared = ""
         self._is_forked = False
+        # Names before of which the server has others' operations.
+        self._forked_formers: Set[str] = set()
 
     def send(self, client: Session, document: str) -> bool:
         """Makes again what copies of the store may have, too, and has the server log it. Returns whether it has; else the server has
         something that isn't known here."""
-        if self._how.stored:
+        if self._how.stored or self._replica.formers:
             for operation in self._rest():
                 self._take(operation)
                 if self._due and self._due[-1][1][1] == self._shared and not self._is_logged(client, document):
@@ -90,10 +93,29 @@ class Remaking:
             yield operation
 
     def _take(self, operation: Operation) -> None:
-        counter, replica = operation[1]
+        replica = operation[1][1]
         if replica == self._replica.name:
             self._take_own(operation)
+        elif self._replica.is_own_name(replica):
+            self._take_former(operation)
+        else:
+            self._take_other(operation)
+
+    def _take_former(self, operation: Operation) -> None:
+        """Takes one of a name before, which goes on elsewhere: it is another's, as long as the server has no other one of its id, or of one
+        that it depends on."""
+        replica = operation[1][1]
+        is_there = self._is_there(operation)
+        is_taken = not is_there and covers(self._scratch.front(), operation[1])
+        is_others = is_there or not is_taken and not self._is_barred(operation)
+        if is_others and replica not in self._forked_formers:
+            self._take_other(operation)
             return
+        self._forked_formers.add(replica)
+        self._make_again(operation)
+
+    def _take_other(self, operation: Operation) -> None:
+        counter, replica = operation[1]
         word = "barred" if self._is_barred(operation) and not self._is_there(operation) else self._deliver(operation)
         if word == "applied":
             self._due.append(operation)
@@ -137,16 +159,22 @@ class Remaking:
         if is_before and self._is_there(operation) and (counter <= self._how.sure or not self._is_of_another(operation)):
             self._good[replica] = counter
             return
+        if self._replica.formers and is_saying(operation):
+            # It is of no use any more: what a name before made is made again, too.
+            return
         self._is_forked = True
         if counter in self._how.logged and self._is_there(operation):
             # It was logged behind another's of this name.
             self.ids[counter, replica], self._made[replica] = operation[1], counter
             return
+        self._make_again(operation)
+
+    def _make_again(self, operation: Operation) -> None:
         made = self._made_shared(operation) or self._made_own(operation)
         if made is None:
             self.lost.append(operation)
         else:
-            self.ids[counter, replica] = made[1]
+            self.ids[operation[1][0], operation[1][1]] = made[1]
             self._made[made[1][1]] = made[1][0]
             self._note_need(made)
 
@@ -179,9 +207,11 @@ class Remaking:
 
     def _made_shared(self, operation: Operation) -> Optional[Operation]:
         """Makes it again as each copy of the store does, where copies may have it."""
-        if operation[1][0] > self._how.stored or self._how.name in self._made or not self._is_makeable(operation):
+        counter, replica = operation[1]
+        is_later = replica == self._replica.name and counter > self._how.stored
+        if is_later or self._how.name in self._made or not self._is_makeable(operation):
             return None
-        session = self._how.session_of(operation[1][0])
+        session = self._how.session_of(counter, replica)
         text = wire.encoded([operation[1], self._renamed(operation, ""), *([session] if session else [])])
         fresh = name_of("again", text.decode())
         for name in filter(None, (self._shared, fresh)):

@@ -20,7 +20,8 @@ from . import wire
 from .again import Places
 from .carrying import carried
 from .chains import Compared
-from .copies import Clock, Own, is_change
+from .copies import Clock, Own, is_beginning, is_change
+from .copies import Session as Opened
 from .generations import generation_of
 from .later import Later
 from .protocol import NUMBERS
@@ -117,7 +118,7 @@ class Replica:
         """The replica of a store, which takes what can be read: a line that is there twice once, and lines in another order than
         that of a log. `unread` has the others. If there are any, it goes on under a new name, since its own may be among them, and
         PATH.old keeps the file as it was. Raises MemoryError, and OSError where the store or the library fails."""
-        lines, unread = store.lines, store.unread
+        lines, unread, formers = store.lines, store.unread, store.formers
         try:
             replica = cls(store.name, lines, library)
         except RefusedLine:
@@ -129,13 +130,13 @@ class Replica:
             replica = cls(fresh_name(store.name.rpartition("-")[0] or store.name), lines, library)
         if unread or lines != store.lines:
             store.replace(replica.name, lines)
-        replica._keep_in(store)
+        replica._keep_in(store, formers)
         replica.unread = unread
         return replica
 
-    def _keep_in(self, store: Store) -> None:
+    def _keep_in(self, store: Store, formers: Dict[str, List[Opened]]) -> None:
         self._store = store
-        self._own = Own(self._own.restored, True, store.is_new, store.sessions)
+        self._own = Own(self._own.restored, True, store.is_new, store.sessions, formers)
         self._own.is_doubtful = store.is_doubtful
 
     def _open(self, name: bytes, lines: bytes) -> None:
@@ -180,7 +181,8 @@ class Replica:
         made one. Raises MemoryError, ValueError where it is closed, and Lost in another process."""
         self._check_process()
         with self._lock:
-            if self._own.is_doubtful and is_change(_request_of(line)):
+            if (self._own.is_mute or self._own.is_doubtful) and is_change(_request_of(line)):
+                self.say_formers()
                 self.say()
             return self._answer(line)
 
@@ -213,10 +215,32 @@ class Replica:
         with self._lock:
             if self._store is None or not self._own.is_doubtful:
                 return
-            key = self._own.key(self.name, self._store.session)
+            key = self._own.key(self.name, self._store.session, self._own.restored)
             _, made = self._answer(wire.encoded(["delete", [0, key]]))
             if made is not None:
                 self._own.is_doubtful, self._own.said = False, int(wire.decoded(made.encode())[1][0])
+
+    def say_formers(self) -> None:
+        """Says, where the store is a copy, which operations the replicas of names before may have, too (see copies.py). That comes first
+        in the log: so it is at a server before what it is about."""
+        with self._lock:
+            if self._store is None or not self._own.is_mute:
+                return
+            before = self.operations()
+            first = next((at for at, it in enumerate(before, 1) if is_beginning(it)), 0)
+            made = self._own.sayings(self.name, self.front(), self._store.session)
+            self._begin_anew(self.name, [wire.encoded(it).decode() for it in [*before[:first], *made, *before[first:]]])
+            self._made += [wire.encoded(it).decode() for it in made]
+            self._own.is_mute = False
+
+    def is_own_name(self, name: str) -> bool:
+        """Whether a name is this replica's, or was that of one of which its store is a copy."""
+        return name == self.name or name in self._own.formers
+
+    @property
+    def formers(self) -> Sequence[str]:
+        """Names before, which go on in stores of which this one's is a copy."""
+        return list(self._own.formers)
 
     def ask(self, *request: Any) -> List[Any]:
         """What follows the word of the reply to a request of docs/FORMATS.md, without the document's name: `ask("keys", [0])`. A
@@ -424,15 +448,19 @@ class Replica:
 
     def _use(self, name: str, lines: List[str]) -> None:
         """Goes on under a new name, with this log."""
-        new = Replica(name, lines, self._library)
-        if self._store is not None:
-            self._store.replace(name, lines)
-        self._library.jcrdt_close(byref(self._handle))
-        self._handle, new._handle = new._handle, _Handle()
+        self._begin_anew(name, lines, self._store)
         self.name, self._made, self._listed = name, [], self.front()
         self._compared.clear()
         sessions = self._store.sessions if self._store is not None else ()
         self._own = Own(0, self._store is not None, True, sessions)
+
+    def _begin_anew(self, name: str, lines: List[str], store: Optional[Store] = None) -> None:
+        """Uses another engine, which begins with this log, once the store has it, too. What is held is gone."""
+        new = Replica(name, lines, self._library)
+        if store is not None:
+            store.replace(name, lines)
+        self._library.jcrdt_close(byref(self._handle))
+        self._handle, new._handle = new._handle, _Handle()
 
     def renew(self, name: str, client: Session, document: str) -> Remade:
         """Goes on under a new name in the generation that the document is in now, after `sync` has given Renewed. Takes that one's log,
@@ -464,7 +492,7 @@ class Replica:
     def _maker_of(self, operation_id: Id) -> List[str]:
         """Who made an operation: its replica, and the opening of the store, where that is known."""
         counter, replica = operation_id
-        session = self._own.session_of(counter) if replica == self.name else ""
+        session = self._own.session_of(counter, replica) if self.is_own_name(replica) else ""
         return [replica, session] if session else [replica]
 
     def _is_forked(self, operation_id: Id, forked: Optional[int]) -> bool:

@@ -5,9 +5,9 @@
         me.save()               # returns once it is on disk
 
 A tab behind the names says that a program has the file open, a space that it was closed. A line `["session",WORD,PLACE]` is before what
-was made in one opening, and says which file it was: so a program in JavaScript goes on with a copy under another name. One store at
-a time has a file, whatever name or link leads there: a second one raises Busy, in this process or in another. The system gives the lock
-back when the process ends, also by a kill. A program in JavaScript doesn't see this lock, nor this one that.
+was made in one opening, and says which file it was: so a copy goes on under another name, and the line of its first opening has the name
+before, too. One store at a time has a file, whatever name or link leads there: a second one raises Busy, in this process or in another.
+The system gives the lock back when the process ends, also by a kill. A program in JavaScript doesn't see this lock, nor this one that.
 """
 
 import contextlib
@@ -18,12 +18,12 @@ import secrets
 import stat
 import threading
 import weakref
-from typing import Dict, Iterator, List, NamedTuple, Optional, Sequence, Tuple
+from typing import Iterator, List, NamedTuple, Optional, Sequence, Tuple
 
-from .copies import Session, counter_of, sessions_among
+from .copies import Opening, formers_among, fronts_of, id_of, sessions_of
 from .remaking import name_of
 from .replaced_file import sync_folder
-from .wire import NAME, encoded
+from .wire import NAME, Front, encoded
 
 HEAD = b'["replica","'
 # How a line begins by which a program says that it opened the file, and edited.
@@ -38,18 +38,23 @@ class Busy(OSError):
 
 class Parts(NamedTuple):
     """What a file has: the names of replica and document, the lines of operations, others, and the size of all in bytes. A last
-    line without an end was cut off in writing: it was never sent, and is in none. `said` has the lines of openings, by their words.
-    `mark_at` is the place of the mark, None in a file of an older package; `is_open` is whether that says so."""
+    line without an end was cut off in writing: it was never sent, and is in none. `known` is what it has of its own names. `mark_at` is
+    the place of the mark, None in a file of an older package; `is_open` is whether that says so."""
 
     name: Optional[str]
     document: Optional[str]
     lines: List[str]
     unread: List[str]
     size: int
-    sessions: List[Session]
-    said: Dict[str, str]
+    openings: List[Opening]
+    known: Front
     mark_at: Optional[int]
     is_open: bool
+
+    @property
+    def place(self) -> Optional[str]:
+        """Which file it was when it was edited last; None where nothing says so."""
+        return next((it.place for it in reversed(self.openings) if it.place is not None), None)
 
 
 class Store:
@@ -58,19 +63,18 @@ class Store:
 
     `is_new` is whether the name is of this opening. `is_doubtful` is whether the file wasn't closed: its program was killed, or goes on
     with what this is a copy of. So it stays until the replica has said so (see copies.py). `sessions` has the openings with edits, and
-    `session` is the word of this one."""
+    `session` is the word of this one. `formers` has names before, which go on in files of which this one is a copy, and their openings."""
 
     def __init__(self, path: str, document: str, word: str = "replica") -> None:
-        """Opens the store at a path, and makes it where there is none: then `word` and a random part are the replica's name. A last
-        line that was cut off in writing is cut. Raises Busy; OSError; and ValueError for what is no such file, or of another
-        document, which stays as it is."""
+        """Opens the store at a path, and makes it where there is none: then `word` and a random part are the replica's name. So they
+        are of a copy, whose last line of an opening names another file. A last line that was cut off in writing is cut. Raises Busy;
+        OSError; and ValueError for what is no such file, or of another document, which stays as it is."""
         self.path, self.document = os.path.realpath(path), document
         self._lock, self._process = threading.RLock(), os.getpid()
         self._file = _locked(self.path)
         self._size, self._has_more = 0, False
         self._mark_at: Optional[int] = None
         self.session, self._is_said = fresh_name("at"), False
-        self._said: Dict[str, str] = {}
         self.is_new = self.is_doubtful = False
         _STORES.add(self)
         try:
@@ -91,16 +95,24 @@ class Store:
             raise ValueError(f"{self.path} is no file of a replica")
         if found.name is not None and found.document != self.document:
             raise ValueError(f"{self.path} has the document {found.document}, not {self.document}")
-        self.name, self.is_new = found.name or fresh_name(word), found.name is None
-        self.lines, self.unread, self.is_doubtful = found.lines, found.unread, found.is_open
-        last = max((counter_of(line, self.name) for line in self.lines), default=0)
-        self.sessions, self._said = [*found.sessions, (last, self.session)], found.said
-        if found.mark_at is None:
+        is_used = found.known.get(found.name or "", 0) > 0
+        is_copy = found.place is not None and found.place != _place_of(self._file)
+        # What nobody made under a name can't say so where a program goes on with it.
+        self.is_new = found.name is None or is_copy or found.place is not None and found.is_open and not is_used
+        self.name = fresh_name(word) if found.name is None or self.is_new else found.name
+        self.lines, self.unread, self.is_doubtful = found.lines, found.unread, found.is_open and not self.is_new
+        former = found.name if is_copy and is_used else None
+        self._use_openings([*found.openings, Opening(self.session, None, former, "", found.known)])
+        if found.mark_at is None or self.is_new:
             self._replace(self.name, self.lines, found.name is None or bool(found.unread))
             return
         self._size, self._has_more, self._mark_at = found.size, True, found.mark_at
         self._cut()
         _write_all(self._file, OPEN, self._mark_at)
+
+    def _use_openings(self, openings: List[Opening]) -> None:
+        self._openings = openings
+        self.sessions, self.formers = sessions_of(self.name, openings), formers_among(openings)
 
     def __del__(self) -> None:
         if hasattr(self, "_file"):
@@ -154,16 +166,19 @@ class Store:
         PATH.old-2 and so on."""
         self._check()
         with self._lock:
-            before = self.sessions, self._is_said
-            if name != self.name:
-                self.sessions, self._is_said = [(0, self.session)], True
+            if name == self.name:
+                self._replace(name, lines, True)
+                return
+            before, openings = self.name, self._openings
+            self.name = name
+            self._use_openings([Opening(self.session, None, None, "", {})])
             try:
                 self._replace(name, lines, True)
             except BaseException:
-                self.sessions, self._is_said = before
+                self.name = before
+                self._use_openings(openings)
                 raise
-            if name != self.name:
-                self.name, self.is_new, self.is_doubtful = name, True, False
+            self.is_new, self.is_doubtful = True, False
 
     def _replace(self, name: str, lines: Sequence[str], keeps_old: bool) -> None:
         head = encoded(["replica", name, self.document])
@@ -171,7 +186,7 @@ class Store:
         try:
             fcntl.flock(new, fcntl.LOCK_EX | fcntl.LOCK_NB)
             os.fchmod(new, stat.S_IMODE(os.fstat(self._file).st_mode))
-            data = b"".join([head, OPEN, b"\n", *(f"{line}\n".encode() for line in self._with_sessions(name, lines, new))])
+            data = b"".join([head, OPEN, b"\n", *(f"{line}\n".encode() for line in self._with_openings(lines, new))])
             _write_all(new, data, 0)
             os.fsync(new)
             if keeps_old and os.fstat(self._file).st_size:
@@ -187,11 +202,13 @@ class Store:
         self._is_said = True
         sync_folder(os.path.dirname(self.path))
 
-    def _with_sessions(self, name: str, lines: Sequence[str], file: int) -> Iterator[str]:
+    def _with_openings(self, lines: Sequence[str], file: int) -> Iterator[str]:
         """The lines, and where openings began that have edited, also this one: it says which file this is."""
-        left = [(after, self._said.get(word) or _session_line(word, file)) for after, word in self.sessions]
+        left = [(it.known, it.line or _session_line(it.word, file, it.former)) for it in self._openings]
+        names = {self.name, *self.formers}
         for line in lines:
-            while left and left[0][0] < counter_of(line, name):
+            counter, maker = id_of(line)
+            while left and maker in names and left[0][0].get(maker, 0) < counter:
                 yield left.pop(0)[1]
             yield line
         yield from (it for _, it in left)
@@ -227,24 +244,25 @@ def parts_of(data: bytes) -> Optional[Parts]:
     name, document = _head_of(first)
     lines: List[str] = []
     unread: List[str] = []
-    words: List[Tuple[int, str]] = []
-    said: Dict[str, str] = {}
+    said: List[Tuple[int, Opening]] = []
     for line in filter(None, rest if name else [first, *rest]):
-        word = _session_of(line)
-        if word is not None:
-            words.append((len(lines), word))
-            said[word] = line
+        opening = _opening_of(line)
+        if opening is not None:
+            said.append((len(lines), opening))
         else:
             (lines if _is_operation(line) else unread).append(line)
     # The first line may have been cut off, too.
     if not name and not lines and (size or not HEAD.startswith(data[:len(HEAD)])):
         return None
     mark_at = data.index(b"\n") - 1 if name and first.endswith(("\t", " ")) else None
-    return Parts(name, document, lines, unread, size, sessions_among(lines, name or "", words), said, mark_at, first.endswith("\t"))
+    names = [name or "", *(it.former for _, it in said if it.former)]
+    *fronts, known = fronts_of(lines, names, [*(at for at, _ in said), len(lines)])
+    openings = [it._replace(known=front) for (_, it), front in zip(said, fronts)]
+    return Parts(name, document, lines, unread, size, openings, known, mark_at, first.endswith("\t"))
 
 
-def _session_line(word: str, file: int) -> str:
-    return encoded(["session", word, _place_of(file)]).decode()
+def _session_line(word: str, file: int, former: Optional[str] = None) -> str:
+    return encoded(["session", word, _place_of(file), *([former] if former else [])]).decode()
 
 
 def _place_of(file: int) -> str:
@@ -255,10 +273,14 @@ def _place_of(file: int) -> str:
     return name_of("file", f"{machine.decode(errors='replace')} {os.fstat(file).st_ino}")
 
 
-def _session_of(line: str) -> Optional[str]:
-    """The word of a line that says that the store was opened, and edited."""
+def _opening_of(line: str) -> Optional[Opening]:
+    """What a line says of an opening with edits. One of an older package has its word alone."""
     value = _value_of(line) if line.startswith(SESSION) else None
-    return value[1] if isinstance(value, list) and len(value) > 1 and isinstance(value[1], str) else None
+    if not isinstance(value, list) or len(value) < 2 or not isinstance(value[1], str):
+        return None
+    place, former = [*value[2:4], None, None][:2]
+    is_name = isinstance(former, str) and NAME.match(former)
+    return Opening(value[1], place if isinstance(place, str) else None, former if is_name else None, line, {})
 
 
 def _head_of(line: str) -> Tuple[Optional[str], Optional[str]]:

@@ -5,7 +5,7 @@ from typing import TYPE_CHECKING, Iterator, List, NamedTuple, Optional, Tuple
 
 from .chains import Compared as ComparedLogs
 from .chains import Behind, Difference, LogsDiffer, are_two, first_difference, has_all, is_same, of_replica, of_session
-from .copies import Own
+from .copies import Own, sayings_first
 from .protocol import NAME_USED_TWICE, NUMBERS
 from .session import Session
 from .wire import Away, Front, Id, Lost, Operation, Refused
@@ -70,6 +70,8 @@ class Exchange:
             theirs = self.client.front(self.document)
             self.check_own(theirs)
             self.check_all(theirs)
+            if any(theirs.get(it, 0) < last for it, last in self.replica.front().items() if it in self.own.formers):
+                self.replica.say_formers()
             if self.replica.is_doubtful and theirs.get(self.name, 0) < self.own.restored:
                 self.replica.say()
             self.take(theirs)
@@ -101,14 +103,23 @@ class Exchange:
             theirs.update(self.client.front(self.document))
 
     def check_all(self, theirs: Front) -> None:
-        """Raises Differs where the server has other operations of some replica than are here."""
-        here, there = of_replica(self.replica), of_session(self.client, self.document)
+        """Raises Differs where the server has other operations of some replica than are here: of others first, since a new name mends what
+        is of this one alone."""
         front = self.replica.front()
         self.logs.look(front, theirs)
-        found = first_difference(here, there, front, theirs, self.logs)
+        differs = self.difference(front, theirs)
+        if differs is not None and self.replica.is_own_name(differs.replica):
+            others = {name: last for name, last in front.items() if not self.replica.is_own_name(name)}
+            differs = self.difference(others, theirs) or differs
+        if differs is not None:
+            raise Differs(differs.replica, differs.counter, self.replica.is_own_name(differs.replica))
+
+    def difference(self, front: Front, theirs: Front) -> Optional[Difference]:
+        """The first operation of what this front has that the server has another one of."""
+        found = first_difference(of_replica(self.replica), of_session(self.client, self.document), front, theirs, self.logs)
         if found is not None:
             self.check_loss(theirs, found)
-            raise Differs(found.replica, found.counter, found.replica == self.name)
+        return found
 
     def check_loss(self, before: Front, found: Difference) -> None:
         """Raises Away where the server has less than it had before, or had less when it was asked for digests, and got it again: it was
@@ -197,7 +208,7 @@ class Exchange:
 
     def give(self, theirs: Front) -> None:
         """Delivers to the server what it lacks, once it is stored."""
-        lacking = self.replica.operations(theirs)
+        lacking = sayings_first(self.replica.operations(theirs), self.name, len(self.own.formers))
         self.replica.save_if_stored()
         barred, at = Barred(), 0
         while at < len(lacking):
@@ -231,8 +242,8 @@ class Exchange:
             is_own = operation[1][1] == self.name
             if isinstance(reply, Refused):
                 self.note(operation, reply)
-                # Where the server has another one of that id, what others made goes there all the same.
-                barred.add(operation, reply.number not in NAME_USED_TWICE)
+                # Where the server has another one of that id, what others made goes there all the same; own ones are made again.
+                barred.add(operation, reply.number not in NAME_USED_TWICE or operation[1][1] in self.own.formers)
                 is_over = is_over or reply.number in FOR_ALL
             elif isinstance(reply, Exception):
                 raise reply
@@ -263,7 +274,7 @@ class Exchange:
         """Whether the own operations are all there, and no more of them. Raises for what was refused."""
         for (counter, replica), refusal in self.refused:
             if refusal.number in NAME_USED_TWICE:
-                raise Differs(replica, counter, False)
+                raise Differs(replica, counter, self.replica.is_own_name(replica))
         for _, refusal in self.refused:
             raise refusal
         there = self.client.front(self.document).get(self.name, 0)

@@ -22,6 +22,7 @@ os.environ["PYTHONDONTWRITEBYTECODE"] = "1"
 sys.dont_write_bytecode = True
 sys.path.insert(0, str(PACKAGE))
 import jcrdt  # noqa: E402
+from jcrdt import store as store_module  # noqa: E402
 # The longest that a test waits for a process or a fact. It is far more than a slow machine takes.
 SECONDS = 300
 # How a server takes back sessions from who is silent for a second while others wait.
@@ -162,6 +163,22 @@ def put_back(server: Server, backup: Path) -> None:
         if (backup / f"srv.db{end}").exists():
             shutil.copy(backup / f"srv.db{end}", server.file + end)
     server.start()
+
+
+@pytest.fixture
+def cloned(monkeypatch: pytest.MonkeyPatch) -> None:
+    """Copies can't be distinguished from the original, as those of a machine that was cloned with its disk: all have one name."""
+    monkeypatch.setattr(store_module, "_place_of", lambda _file: "file-of-all")
+
+
+@pytest.fixture(params=["apart", "cloned"])
+def names(request: pytest.FixtureRequest) -> None:
+    """Copies have names of their own, or all have one."""
+    if request.param == "cloned":
+        request.getfixturevalue("cloned")
+
+
+of_either_name = pytest.mark.usefixtures("names")
 
 
 @pytest.fixture

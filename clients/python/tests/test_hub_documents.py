@@ -1,6 +1,7 @@
 """A hub that runs its servers, from Python: its documents, their generations, and who has something of one before. Needs node."""
 
 import asyncio
+import itertools
 import json
 import os
 import random
@@ -12,8 +13,9 @@ from typing import Any, Callable, Iterator, List, Tuple
 
 import pytest
 
-from conftest import PROGRAM, SECONDS, TOP, tool
-from test_running_copies import Program, state
+from conftest import PROGRAM, SECONDS, TOP, of_either_name, tool
+from test_mixed_copies import Either
+from test_running_copies import OfJavaScript, Program, state
 
 import jcrdt
 from jcrdt import Away, Desk, Lost, Refused, Renewed, Writes, aio, generation_of
@@ -353,6 +355,7 @@ def test_what_others_stored_meanwhile_is_not_cleared(hub: Hub) -> None:
 
 
 @needs_library
+@of_either_name
 @pytest.mark.parametrize("is_running", [True, False])
 def test_copies_of_one_store_bring_an_edit_over_once(hub: Hub, tmp_path: Path, is_running: bool) -> None:
     """Of a store that was open when it was copied, or closed. What each has edited since is its own, however alike."""
@@ -384,17 +387,60 @@ def test_copies_of_one_store_bring_an_edit_over_once(hub: Hub, tmp_path: Path, i
         assert client.plain("d", [0]) == {"list": ["one", *due], "votes": jcrdt.Counter(3)}
 
 
+@needs_library
+@pytest.mark.parametrize("original, first", itertools.product(["python", "javascript"], [0, 1]))
+def test_copies_in_both_languages_bring_an_edit_over_once(hub: Hub, tmp_path: Path, original: str, first: int) -> None:
+    """What the original made and what each has edited since, over a renewal; and a second copy, in the later generation."""
+    paths = [tmp_path / "0", tmp_path / "1"]
+    with opened(hub) as client:
+        client.put("d", [0], {"list": ["base"], "votes": jcrdt.Counter(1)})
+        program = Program(paths[0])
+        program.sync(client)
+        if original == "python":
+            program.write("before")
+            shutil.copy(*paths)
+            other = OfJavaScript(paths[1], client)
+        else:
+            program.close()
+            other = OfJavaScript(paths[0], client)
+            other.ask("write before")
+            shutil.copy(*paths)
+            program = Program(paths[1])
+        program.write("alike")
+        other.ask("write alike")
+        hub.desk.renew("d")
+        for number in (first, 1 - first, first):
+            if number:
+                other.ask("online")
+            else:
+                synced(program, client)
+        due = ["alike", "alike", "base", "before"], 4
+        assert state(program.me) == other.ask("online") == state(client, "d", [0]) == due
+        program.close()
+        other.close()
+
+
+def synced(it: Program, client: Session) -> None:
+    """Syncs, also where the hub has renewed the document."""
+    try:
+        it.sync(client)
+    except Renewed:
+        assert it.me.renew(fresh_name("me"), client, "d").lost == []
+        it.sync(client)
+
+
 def put_back(client: jcrdt.Session, tmp_path: Path) -> str:
-    """A store as it was once, of whose replica the server has a later edit."""
-    path, backup = str(tmp_path / "ada"), str(tmp_path / "backup")
+    """A store as it was once, of whose replica the server has a later edit: an older file that was written over the newer one."""
+    path = str(tmp_path / "ada")
     with Store(path, "d", "ada") as store, Replica.stored(store) as me:
         me.put([0, "list"], ["base"])
         me.sync(client, "d")
-    shutil.copy(path, backup)
+    older = Path(path).read_bytes()
     with Store(path, "d") as store, Replica.stored(store) as me:
         me.insert([0, "list", 1], "newer")
         me.sync(client, "d")
-    return backup
+    Path(path).write_bytes(older)
+    return path
 
 
 @needs_library
@@ -413,6 +459,58 @@ def test_the_id_of_another_in_the_generation_before_is_no_own_edit_of_mine(hub: 
 
 
 @needs_library
+def test_a_copy_in_a_later_generation_says_so(hub: Hub, tmp_path: Path) -> None:
+    """What it says knows of the generation's beginning: without that the hub takes it for an operation of another one."""
+    with opened(hub) as client:
+        client.put("d", [0], {"list": ["base"], "votes": jcrdt.Counter(1)})
+        hub.desk.renew("d")
+        me = Program(tmp_path / "store")
+        me.sync(client)
+        me.write("first")
+        me.sync(client)
+        me.close()
+        me.open()
+        me.write("before")
+        name, copy = me.me.name, me.copied(tmp_path / "copy")
+        copy.write("copy")
+        copy.close()
+        copy.open()
+        for it in (copy, me, copy):
+            it.sync(client)
+        assert (me.me.name, me.clock.pauses, copy.me.formers) == (name, [], [name])
+        for found in (state(me.me), state(copy.me), state(client, "d", [0])):
+            assert found == (["base", "before", "copy", "first"], 4)
+        for it in (me, copy):
+            it.close()
+
+
+@needs_library
+@pytest.mark.parametrize("languages", itertools.product(["python", "javascript"], repeat=2), ids="-".join)
+def test_copies_in_both_languages_in_a_later_generation(hub: Hub, tmp_path: Path, languages: Tuple[str, str]) -> None:
+    with opened(hub) as client:
+        client.put("d", [0], {"list": ["base"], "votes": jcrdt.Counter(1)})
+        hub.desk.renew("d")
+        original = Either(tmp_path / "0", client, languages[0])
+        original.sync()
+        original.write("first")
+        original.sync()
+        original.end("closed")
+        original.open(languages[0])
+        original.write("before")
+        name = original.name
+        shutil.copy(tmp_path / "0", tmp_path / "1")
+        copy = Either(tmp_path / "1", client, languages[1])
+        copy.write("copy")
+        for it in (copy, original, copy):
+            it.sync()
+        assert original.name == name != copy.name
+        assert original.state == copy.state == state(client, "d", [0]) == (["base", "before", "copy", "first"], 4)
+        original.end("closed")
+        copy.end("closed")
+
+
+@needs_library
+@of_either_name
 def test_what_a_copy_has_made_again_before_is_there(hub: Hub, tmp_path: Path) -> None:
     """A third copy has used their ids. What follows goes into the element that the copy has made."""
     paths = [tmp_path / name for name in ("first", "second", "third")]
@@ -534,6 +632,7 @@ class Rounds:
 
 
 @needs_library
+@of_either_name
 @pytest.mark.parametrize("seed", range(int(os.environ.get("ROUNDS", "4"))))
 def test_random_rounds_over_generations(hub: Hub, tmp_path: Path, seed: int) -> None:
     """Nothing is lost, nothing doubled."""

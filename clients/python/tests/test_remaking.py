@@ -10,7 +10,7 @@ from typing import Any, Callable, Iterable, List, Tuple
 
 import pytest
 
-from conftest import SECONDS, TOP, Server, tool
+from conftest import SECONDS, TOP, Server, of_either_name, tool
 
 import jcrdt
 from jcrdt import replica as replica_module
@@ -109,7 +109,8 @@ def test_notes_from_a_backup_and_a_copy(serve: Serve, tmp_path: Path) -> None:
     shutil.copy(tmp_path / "backup", tmp_path / "ada")
     notes("ada", "add", "after the restore")
     notes("copy", "add", "by the copy")
-    assert sync("copy")[0] == "0 operations came, 1 went"
+    # The copy says first which notes it has.
+    assert sync("copy")[0] == "0 operations came, 2 went"
     assert sync("ada")[0] == "another file has this one's name: 1 operations were made again under a new one"
     notes("ada", "add", "one more")
     for file in ("ada", "copy", "third"):
@@ -119,6 +120,7 @@ def test_notes_from_a_backup_and_a_copy(serve: Serve, tmp_path: Path) -> None:
         assert sorted(line.partition(". ")[2] for line in notes(file)) == due
 
 
+@of_either_name
 @pytest.mark.parametrize("more, others", [(0, 0), (1, 3), (5, 0)])
 def test_copies_that_hold_the_same_unsent_edits_make_them_again_once(serve: Serve, tmp_path: Path, more: int, others: int) -> None:
     base, third, copy = (str(tmp_path / it) for it in ("base", "third", "copy"))
@@ -146,6 +148,7 @@ def test_copies_that_hold_the_same_unsent_edits_make_them_again_once(serve: Serv
                 assert state(me) == state(client, "d", [0]) == (sorted(texts), len(texts))
 
 
+@of_either_name
 @pytest.mark.parametrize("seed", range(12))
 def test_random_copies_of_a_store_lose_nothing_and_double_nothing(serve: Serve, tmp_path: Path, seed: int) -> None:
     dice = random.Random(seed)
@@ -175,6 +178,7 @@ def test_random_copies_of_a_store_lose_nothing_and_double_nothing(serve: Serve, 
                 assert (state(me), me.unread) == ((sorted(texts), len(texts)), [])
 
 
+@of_either_name
 def test_cards_that_two_copies_began_alike_are_two(serve: Serve, tmp_path: Path) -> None:
     path, copy = str(tmp_path / "ada"), str(tmp_path / "copy")
     with session(serve("d")) as client:
@@ -193,21 +197,23 @@ def test_cards_that_two_copies_began_alike_are_two(serve: Serve, tmp_path: Path)
         assert sorted(it["title"] for it in found) == ["a's", "b's"]
 
 
-@pytest.mark.parametrize("is_copy", [False, True])
-def test_an_edit_of_what_others_deleted_survives_under_a_new_name_too(serve: Serve, tmp_path: Path, is_copy: bool) -> None:
+@pytest.mark.parametrize("is_older", [False, True])
+def test_an_edit_of_what_others_deleted_survives_under_a_new_name_too(serve: Serve, tmp_path: Path, is_older: bool) -> None:
     """As each edit that is made at the same time as a deletion: what becomes of it doesn't hang on who has the name."""
     path, other = str(tmp_path / "ada"), str(tmp_path / "other")
     with session(serve("d")) as client:
         with Store(path, "d", "ada") as store, Replica.stored(store) as me:
             me.put([0, "list"], [{"title": "milk", "votes": jcrdt.Counter(1)}, "bread", "tea"])
             me.sync(client, "d")
-        if is_copy:
-            shutil.copy(path, other)
+        if is_older:
+            older = (tmp_path / "ada").read_bytes()
             with Store(path, "d") as store, Replica.stored(store) as me:
                 me.assign([0, "by"], "the first")
                 me.sync(client, "d")
+            (tmp_path / "ada").write_bytes(older)
+            other = path
         with Store(other, "d", "bob") as store, Replica.stored(store) as me:
-            if not is_copy:
+            if not is_older:
                 me.sync(client, "d")
             for _ in range(3):
                 client.delete("d", [0, "list", 1])
@@ -216,11 +222,12 @@ def test_an_edit_of_what_others_deleted_survives_under_a_new_name_too(serve: Ser
             me.assign([0, "list", 4], "green tea")
             name = me.name
             exchanged(me, client)
-            assert (me.name != name) == is_copy
+            assert (me.name != name) == is_older
             shown = me.plain([0, "list"])
             assert shown == client.plain("d", [0, "list"]) == [{"votes": jcrdt.Counter(1)}, "behind bread", "green tea"]
 
 
+@of_either_name
 def test_edits_of_elements_keep_what_they_knew(serve: Serve, tmp_path: Path) -> None:
     """A conflict stays one, and what was put into an element that is made again is in that one."""
     path, copy = str(tmp_path / "ada"), str(tmp_path / "copy")

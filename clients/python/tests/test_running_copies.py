@@ -15,7 +15,7 @@ from typing import Any, Callable, Iterator, List, Optional, Sequence, Tuple
 
 import pytest
 
-from conftest import SECONDS, TOP, Server
+from conftest import SECONDS, TOP, Server, of_either_name
 
 import jcrdt
 from jcrdt import replica as replica_module
@@ -106,7 +106,8 @@ class Program:
         raise AssertionError("it goes on and on")
 
 
-def cut_after(count: int, client: Session, monkeypatch: pytest.MonkeyPatch) -> None:
+@contextlib.contextmanager
+def cut_after(count: int, client: Session) -> Iterator[None]:
     """Lets a session break once it has delivered so many operations."""
     left, ask_all = [count], client.ask_all
 
@@ -119,7 +120,9 @@ def cut_after(count: int, client: Session, monkeypatch: pytest.MonkeyPatch) -> N
             left[0] -= len(asked)
         return ask_all(asked)
 
-    monkeypatch.setattr(client, "ask_all", cut)
+    with pytest.MonkeyPatch.context() as patch, contextlib.suppress(jcrdt.Lost):
+        patch.setattr(client, "ask_all", cut)
+        yield
 
 
 def state(of: Any, *where: Any) -> Tuple[List[str], int]:
@@ -161,6 +164,7 @@ def check(programs: List[Program], client: Session, texts: List[str], votes: int
 WAYS = list(itertools.product(["original", "copy"], [True, False], ["first", "anew", "killed"], [True, False]))
 
 
+@of_either_name
 @pytest.mark.parametrize("who, is_edited, how, is_known", WAYS)
 def test_a_store_copied_while_it_is_edited(client: Session, tmp_path: Path, who: str, is_edited: bool, how: str, is_known: bool) -> None:
     """Whoever syncs first, each edit is there once. Where the program was opened anew, the server has nothing of it since."""
@@ -180,6 +184,7 @@ def test_a_store_copied_while_it_is_edited(client: Session, tmp_path: Path, who:
     check([me, copy], client, texts, len(texts))
 
 
+@of_either_name
 @pytest.mark.parametrize("made, first", itertools.product(["open", "closed", "one each"], [0, 1, 2]))
 def test_votes_alike_in_the_original_and_in_copies_all_count(client: Session, tmp_path: Path, made: str, first: int) -> None:
     me = begun(tmp_path / "store", client)
@@ -202,6 +207,7 @@ def test_votes_alike_in_the_original_and_in_copies_all_count(client: Session, tm
     check(programs, client, ["base"], votes)
 
 
+@of_either_name
 @pytest.mark.parametrize("who, is_reopened", itertools.product(["original", "copy"], [False, True]))
 def test_a_card_that_was_begun_when_the_copy_was_made_is_one(client: Session, tmp_path: Path, who: str, is_reopened: bool) -> None:
     """Its title came behind. It isn't that of two that began a card each."""
@@ -225,6 +231,7 @@ def test_a_card_that_was_begun_when_the_copy_was_made_is_one(client: Session, tm
     copy.close()
 
 
+@of_either_name
 @pytest.mark.parametrize("how", ["closed", "killed"])
 def test_cards_that_were_begun_alike_behind_a_closed_store_are_two(client: Session, tmp_path: Path, how: str) -> None:
     me = begun(tmp_path / "store", client)
@@ -247,6 +254,7 @@ def test_cards_that_were_begun_alike_behind_a_closed_store_are_two(client: Sessi
         it.close()
 
 
+@of_either_name
 @pytest.mark.parametrize("is_synced", [True, False])
 def test_a_copy_of_what_the_server_has_votes_alike(client: Session, tmp_path: Path, is_synced: bool) -> None:
     """It has nothing to send at first, and says where it begins all the same."""
@@ -260,25 +268,74 @@ def test_a_copy_of_what_the_server_has_votes_alike(client: Session, tmp_path: Pa
     check([me, copy], client, ["base"], 3)
 
 
+@of_either_name
 @pytest.mark.parametrize("count", range(9))
-def test_a_copy_that_is_killed_while_it_sends(client: Session, tmp_path: Path, monkeypatch: pytest.MonkeyPatch, count: int) -> None:
+def test_a_copy_that_is_killed_while_it_sends(client: Session, tmp_path: Path, count: int) -> None:
     """The program takes what came of it for its own: it has sent edits of this opening before."""
     me = begun(tmp_path / "store", client)
     me.write("before 1", "before 2")
     copy = me.copied(tmp_path / "copy")
     copy.write("copy")
     me.write("original")
-    cut_after(count, client, monkeypatch)
-    with contextlib.suppress(jcrdt.Lost):
+    with cut_after(count, client):
         copy.me.sync(client, "d")
     copy.kill()
-    monkeypatch.undo()
     me.sync(client)
     assert me.clock.pauses == []
     copy.open()
     check([me, copy], client, ["base", "before 1", "before 2", "copy", "original"], 5)
 
 
+@pytest.mark.parametrize("count, is_reopened", itertools.product(range(7), [False, True]))
+def test_a_copy_says_so_before_it_sends_anything(client: Session, tmp_path: Path, count: int, is_reopened: bool) -> None:
+    """Its file has that behind what it is about. The program has sent nothing since it was opened: it needn't wait, and keeps its name."""
+    me = begun(tmp_path / "store", client)
+    me.close()
+    me.open()
+    me.write("before 1", "before 2")
+    copy = me.copied(tmp_path / "copy")
+    copy.write("copy")
+    if is_reopened:
+        copy.close()
+        copy.open()
+    with cut_after(count, client):
+        copy.me.sync(client, "d")
+    copy.kill()
+    me.write("original")
+    name = me.me.name
+    me.sync(client)
+    assert (me.clock.pauses, me.me.name) == ([], name)
+    copy.open()
+    check([me, copy], client, ["base", "before 1", "before 2", "copy", "original"], 5)
+
+
+@pytest.mark.parametrize("is_edited", [False, True])
+def test_what_a_copy_says(client: Session, tmp_path: Path, is_edited: bool) -> None:
+    """Once, of each name before, also where it sends what others made alone. One that has nothing to send takes no name in the document."""
+    me = begun(tmp_path / "store", client)
+    me.close()
+    me.open()
+    me.write("before")
+    words = [word for _, word in me.store.sessions]
+    copy = me.copied(tmp_path / "copy")
+    copy.vote(int(is_edited))
+    third = copy.copied(tmp_path / "third")
+    third.sync(client)
+    first = [it for it in client.operations("d") if it[1][1] == third.me.name]
+    due = [f"jcrdt copy of {me.me.name} 5 {third.store.session} {words[-1]}"]
+    if is_edited:
+        due.append(f"jcrdt copy of {copy.me.name} 6 {third.store.session} {copy.store.session}")
+    assert [it[3:] for it in first] == [[[[["m", 0]], key], ["delete"]] for key in due]
+    assert [it[2] for it in first] == [[], [[third.me.name, 1]]][:len(due)] and len(third.me.made()) == len(due)
+    me.sync(client)
+    assert me.clock.pauses == []
+    fourth = me.copied(tmp_path / "fourth")
+    fourth.sync(client)
+    assert fourth.me.formers == [me.me.name] and fourth.me.name not in client.front("d")
+    check([me, copy, third, fourth], client, ["base", "before"], 2 + is_edited)
+
+
+@pytest.mark.usefixtures("cloned")
 def test_a_program_waits_while_a_copy_sends(client: Session, tmp_path: Path) -> None:
     """It was opened anew, and has sent nothing since: what comes may be that of a copy, or votes alike of another."""
     me = begun(tmp_path / "store", client)
@@ -301,6 +358,7 @@ def test_a_program_waits_while_a_copy_sends(client: Session, tmp_path: Path) -> 
     check([me, copy], client, ["base"], 6)
 
 
+@pytest.mark.usefixtures("cloned")
 def test_votes_alike_of_another_store_are_waited_for_five_seconds_once(client: Session, tmp_path: Path) -> None:
     me = begun(tmp_path / "store", client)
     me.close()
@@ -321,8 +379,8 @@ class Rounds:
     """Edits, votes, copies, copies of copies, kills and syncs in any order. A program that was killed while it sent is started again
     while another one waits for what it has begun to send."""
 
-    def __init__(self, seed: int, client: Session, folder: Path, monkeypatch: pytest.MonkeyPatch) -> None:
-        self.seed, self.client, self.folder, self.monkeypatch = seed, client, folder, monkeypatch
+    def __init__(self, seed: int, client: Session, folder: Path) -> None:
+        self.seed, self.client, self.folder = seed, client, folder
         self.dice = random.Random(seed)
         self.programs = [begun(folder / "0", client if self.dice.random() < 0.5 else None)]
         self.texts, self.votes = ["base"], 1
@@ -362,19 +420,18 @@ class Rounds:
             self.kill_while_it_sends(it)
 
     def kill_while_it_sends(self, it: Program) -> None:
-        cut_after(self.dice.randrange(6), self.client, self.monkeypatch)
-        with contextlib.suppress(jcrdt.Lost, Differs):
+        with cut_after(self.dice.randrange(6), self.client), contextlib.suppress(Differs):
             it.me.sync(self.client, "d")
-        self.monkeypatch.undo()
         it.kill()
         it.open()
         self.cut.append(it)
 
 
+@of_either_name
 @pytest.mark.parametrize("seed", range(int(os.environ.get("ROUNDS", "24"))))
-def test_random_copies_of_running_stores(client: Session, tmp_path: Path, monkeypatch: pytest.MonkeyPatch, seed: int) -> None:
+def test_random_copies_of_running_stores(client: Session, tmp_path: Path, seed: int) -> None:
     """Nothing is lost, nothing doubled."""
-    rounds = Rounds(seed, client, tmp_path, monkeypatch)
+    rounds = Rounds(seed, client, tmp_path)
     for number in range(50):
         rounds.turn(number)
     rounds.dice.shuffle(rounds.programs)
@@ -383,6 +440,7 @@ def test_random_copies_of_running_stores(client: Session, tmp_path: Path, monkey
     assert sorted(it["title"] for it in cards if "title" in it) == sorted(rounds.titles)
 
 
+@of_either_name
 @pytest.mark.parametrize("seed", range(12))
 def test_an_original_and_a_copy_that_sync_at_the_same_time(serve: Serve, tmp_path: Path, seed: int) -> None:
     """Each in a thread of its own, over a session of its own, several times."""
@@ -451,6 +509,8 @@ def test_which_copies_say_so() -> None:
     assert copied("ada 3 at-9 at-1") == copied("ada 3 at-9") == copied("ada 3") == 3
     assert copied("ada 4 at-9 at-2") == copied("ada 4 at-9 at-2", known=[["copy", 1]]) == 4
     assert copied("ada 3 at-9 at-1", "ada", [["ada", 1], ["bob", 1]]) == 3
+    gen = "gen2-aaaaaaaaaa-1"
+    assert copied("ada 3 at-9 at-1", known=[["copy", 2], [gen, 1]]) == 3 and copied("ada 3 at-9 at-1", known=[[gen, 2]]) == 0
     assert copied("ada 3 at-9 at-1", known=[["bob", 1]]) == copied("ada 3 at-9 at-1", known=[["bob", 1], ["copy", 1]]) == 0
     assert copied("ada 3 at-9 at-2") == copied("ada 4 at-9 at-1") == copied("adam 3") == copied("bob 3") == copied("ada x") == 0
     assert copied("ada 3", word="assign") == 0
@@ -466,6 +526,8 @@ for await (const line of createInterface({ input: process.stdin })) {
   const [word, ...texts] = line.split(" ");
   if (word === "write") for (const text of texts) {
     it.replica.insert([0, "list", 0], text);
+    it.replica.add([0, "votes"], 1);
+  } else if (word === "vote") {
     it.replica.add([0, "votes"], 1);
   } else if (word === "online") {
     it.goOnline();
@@ -489,11 +551,15 @@ class OfJavaScript:
         assert self.child.stdin is not None and self.child.stdout is not None
         self.child.stdin.write(f"{line}\n")
         texts, votes = json.loads(self.child.stdout.readline())
-        return sorted(texts), votes
+        return sorted(texts or []), votes
 
     def close(self) -> None:
         self.child.communicate(timeout=SECONDS)
         assert self.child.returncode == 0
+
+    def kill(self) -> None:
+        self.child.kill()
+        self.child.communicate(timeout=SECONDS)
 
 
 @pytest.mark.skipif(shutil.which("node") is None, reason="node isn't here")

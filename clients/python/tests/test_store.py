@@ -1,7 +1,9 @@
 """A replica's store in a file: opened twice, by threads, through a link, behind a fork; full, torn, damaged and replaced."""
 
+import json
 import os
 import resource
+import shutil
 import subprocess
 import sys
 import threading
@@ -37,10 +39,15 @@ def opened(path: Any, document: str = "notes") -> Store:
     return Store(str(path), document, "ada")
 
 
-def session_line(store: Store, path: Path) -> str:
-    """The line by which an opening says its word, and which file it is, by the machine and the inode."""
+def place_of(path: Path) -> str:
+    """Which file it is, by the machine and the inode."""
     machine = Path("/etc/machine-id").read_text().strip() if os.path.exists("/etc/machine-id") else ""
-    return '["session","%s","%s"]' % (store.session, name_of("file", f"{machine} {os.stat(path).st_ino}"))
+    return name_of("file", f"{machine} {os.stat(path).st_ino}")
+
+
+def session_line(store: Store, path: Path, *former: str) -> str:
+    """The line by which an opening says its word, which file it is, and which name goes on in another one."""
+    return json.dumps(["session", store.session, place_of(path), *former], separators=(",", ":"))
 
 
 def text_of(path: Path) -> str:
@@ -76,24 +83,113 @@ def test_a_file_says_whether_it_was_closed_and_when_it_was_edited(tmp_path: Path
     assert path.read_text() == "\n".join([f"{HEAD} ", FIRST, words[0], SECOND, words[1], THIRD, ""])
     with opened(path) as store:
         assert [after for after, _ in store.sessions] == [1, 2, 3]
-        (tmp_path / "copy").write_text(path.read_text())
         store.replace("ada-1", store.lines)
         # It is another file, and the last line says so.
         assert path.read_text() == "\n".join([f"{HEAD}\t", FIRST, words[0], SECOND, words[1], THIRD, session_line(store, path), ""])
         store.replace("ada-2", store.lines)
         assert store.is_new and store.sessions == [(0, store.session)]
         assert path.read_text().splitlines()[1:] == [FIRST, SECOND, THIRD, session_line(store, path)]
-    with opened(tmp_path / "copy") as store:
-        assert store.is_doubtful
-    assert (tmp_path / "copy").read_text().splitlines()[0] == f"{HEAD}\t"
+
+
+@pytest.mark.parametrize("package", ["of now", "older"])
+def test_a_killed_program_keeps_its_name(tmp_path: Path, package: str) -> None:
+    """The file says that it is the same one. That of an older package doesn't say which it is: it isn't taken for a copy."""
+    path = file_of(tmp_path, f"{HEAD}\t", FIRST)
+    word = '["session","at-1","%s"]' % place_of(path) if package == "of now" else '["session","at-1"]'
+    path.write_text("\n".join([f"{HEAD}\t", word, FIRST, ""]))
+    if package == "older":
+        shutil.copy(path, tmp_path / "copy")
+        path = tmp_path / "copy"
+    with opened(path) as store:
+        assert (store.name, store.is_new, store.is_doubtful, store.formers) == ("ada-1", False, True, {})
+    assert path.read_text().splitlines()[0] == f"{HEAD}\t"
+
+
+@pytest.mark.parametrize("how", ["closed", "open"])
+def test_a_copy_has_a_name_of_its_own(tmp_path: Path, how: str) -> None:
+    """And says which one made its operations until then: once, and also where it is copied again."""
+    path, copy, third = (tmp_path / it for it in ("notes", "copy", "third"))
+    store = opened(path)
+    name = store.name
+    first = FIRST.replace("ada-1", name)
+    store.append([first])
+    before = path.read_text().splitlines()[1:]
+    if how == "closed":
+        store.close()
+    shutil.copy(path, copy)
+    with Store(str(copy), "notes", "bob") as other:
+        assert (other.name[:4], other.is_new, other.is_doubtful, other.lines) == ("bob-", True, False, [first])
+        assert other.formers == {name: [(0, store.session)]} and other.sessions == [(0, store.session), (0, other.session)]
+        said = [*before, session_line(other, copy, name)]
+        assert copy.read_text().splitlines() == ['["replica","%s","notes"]\t' % other.name, *said]
+        second = SECOND.replace('"ada-1"]', f'"{other.name}"]').replace("ada-1", name, 1)
+        other.append([second])
+    with opened(copy) as again:
+        assert (again.name, again.is_new, again.formers) == (other.name, False, other.formers)
+        assert again.sessions == [(0, store.session), (0, other.session), (2, again.session)]
+        again.replace(again.name, again.lines)
+        assert copy.read_text().splitlines()[1:] == [*said, second, session_line(again, copy)]
+    shutil.copy(copy, third)
+    with opened(third) as last:
+        words = [store.session, other.session, again.session]
+        assert last.formers == {name: [(0, words[0])], other.name: [(0, words[0]), (0, words[1]), (2, words[2])]}
+        assert third.read_text().splitlines()[-1] == session_line(last, third, other.name)
+        last.replace("carl-1", last.lines)
+        assert (last.formers, last.sessions) == ({}, [(0, last.session)])
+    store.close()
+    assert sorted(os.listdir(tmp_path)) == ["copy", "copy.old", "notes", "third", "third.old"]
+    with opened(path) as store:
+        assert (store.name, store.formers) == (name, {})
+
+
+def test_which_files_are_copies(tmp_path: Path) -> None:
+    """One that was moved isn't, nor one that an older one was written over. One that has made nothing has no name to say."""
+    path, moved, copy = (tmp_path / it for it in ("notes", "moved", "copy"))
+    with opened(path) as store:
+        name = store.name
+    shutil.copy(path, copy)
+    with opened(copy) as other:
+        assert other.name != name and other.is_new and other.formers == {}
+    older = path.read_bytes()
+    with opened(path) as store:
+        store.append([FIRST.replace("ada-1", name)])
+    path.write_bytes(older)
+    path.rename(moved)
+    with opened(moved) as store:
+        assert (store.name, store.is_new, store.formers) == (name, False, {})
+
+
+def test_a_copy_with_lines_that_can_not_be_read_keeps_them(tmp_path: Path) -> None:
+    path = file_of(tmp_path, f"{HEAD} ", '["session","at-1","file-1"]', FIRST, "damaged")
+    text = path.read_text()
+    with opened(path) as store:
+        assert (store.lines, store.unread, list(store.formers)) == ([FIRST], ["damaged"], ["ada-1"])
+    assert (tmp_path / "notes.old").read_text() == text
+
+
+@needs_library
+def test_what_can_not_be_written_leaves_a_copy_as_it_was(tmp_path: Path) -> None:
+    path = file_of(tmp_path, f"{HEAD} ", '["session","at-1","file-1"]', FIRST)
+    text, limits = path.read_text(), resource.getrlimit(resource.RLIMIT_FSIZE)
+    resource.setrlimit(resource.RLIMIT_FSIZE, (10, limits[1]))
+    try:
+        with pytest.raises(OSError):
+            opened(path)
+    finally:
+        resource.setrlimit(resource.RLIMIT_FSIZE, limits)
+    assert path.read_text() == text and os.listdir(tmp_path) == ["notes"]
+    with opened(path) as store, Replica.stored(store) as me:
+        assert me.formers == ["ada-1"]
 
 
 def test_lines_of_openings_stay_as_they_are(tmp_path: Path) -> None:
     """Those of JavaScript, which may name the name before, and those of older packages."""
-    words = ['["session","at-1"]', '["session","at-2","file-2","old-1"]', '["session","at-3","file-3"]']
-    path = file_of(tmp_path, f"{HEAD} ", words[0], FIRST, words[1], SECOND, words[2])
+    path = file_of(tmp_path, "")
+    words = ['["session","at-1"]', '["session","at-2","file-2","old-1"]', '["session","at-3","%s"]' % place_of(path)]
+    path.write_text("\n".join([f"{HEAD} ", words[0], FIRST, words[1], SECOND, words[2], ""]))
     with opened(path) as store:
         assert store.unread == [] and [word for _, word in store.sessions] == ["at-1", "at-2", "at-3", store.session]
+        assert store.formers == {"old-1": [(0, "at-1")]}
         store.replace("ada-1", [FIRST, SECOND])
         assert path.read_text().splitlines()[1:] == [words[0], FIRST, words[1], SECOND, words[2], session_line(store, path)]
         store.append([THIRD])

@@ -11,6 +11,7 @@ from conftest import Server, wait_until
 
 import jcrdt
 from jcrdt import replica as replica_module
+from jcrdt.copies import is_saying
 from jcrdt.replica import Replica
 from jcrdt.session import Session
 from jcrdt.store import Store
@@ -62,24 +63,64 @@ def test_a_replica_and_a_server_exchange(serve: Serve, tmp_path: Path) -> None:
 
 @pytest.mark.parametrize("first, second", [(["new"], ["mine"]), (["new"], ["mine", "more"]), (["new"], []),
                                            (["new", "same"], ["mine", "same"]), (["new"] * 3, ["mine"]), (["new"] * 300, ["mine"] * 300)])
-def test_an_older_or_copied_store_is_noticed(serve: Serve, tmp_path: Path, first: List[str], second: List[str]) -> None:
+def test_an_older_store_over_the_newer_one_is_noticed(serve: Serve, tmp_path: Path, first: List[str], second: List[str]) -> None:
     """Before anything is exchanged: so nothing is mixed, and what was made here stays here."""
-    server, ada, copy = serve("d"), tmp_path / "ada", tmp_path / "copy"
+    server, ada, newer = serve("d"), tmp_path / "ada", tmp_path / "newer"
     assert synced(server, ada, "base") == (0, 1)
-    shutil.copy(ada, copy)
+    older = ada.read_bytes()
     assert synced(server, ada, *first) == (0, len(first))
+    shutil.copy(ada, newer)
+    ada.write_bytes(older)
     before = shown(server)
     for turn in range(2):
-        error = synced(server, copy, *([] if turn else second))
+        error = synced(server, ada, *([] if turn else second))
         assert isinstance(error, Differs) and error.is_own, error
-        with Store(str(copy), "d") as store, Replica.stored(store) as me:
+        with Store(str(ada), "d") as store, Replica.stored(store) as me:
             assert error.replica == me.name and me.plain([0, "list"]) == [*reversed(second), "base"]
             assert error.counter == 2
     assert shown(server) == before
-    # The other one isn't hindered.
-    assert synced(server, ada, "on") == (0, 1)
+    # A copy of the newer one isn't hindered. It says first that it is one.
+    assert synced(server, newer, "on") == (0, 2)
 
 
+def test_a_copy_is_no_other_one(serve: Serve, tmp_path: Path) -> None:
+    """It has a name of its own, and both go on."""
+    server, ada, copy = serve("d"), tmp_path / "ada", tmp_path / "copy"
+    synced(server, ada, "base")
+    shutil.copy(ada, copy)
+    assert [synced(server, copy, "same"), synced(server, ada, "same"), synced(server, copy)] == [(0, 2), (2, 1), (1, 0)]
+    assert shown(server) == {"list": ["same", "same", "base"]}
+
+
+def test_what_differs_of_a_name_before_is_ones_own(serve: Serve, tmp_path: Path) -> None:
+    """An older file was written over the original, and uses its name again. So copies go on under new names: what they have in common
+    is there once."""
+    server, ada, copies = serve("d"), tmp_path / "ada", [tmp_path / "one", tmp_path / "two"]
+    synced(server, ada, "base")
+    older = ada.read_bytes()
+    with Store(str(ada), "d") as store, Replica.stored(store) as me:
+        add(me, "unsent")
+    for it in copies:
+        shutil.copy(ada, it)
+    ada.write_bytes(older)
+    assert synced(server, ada, "another") == (0, 1)
+    for path in copies:
+        with Store(str(path), "d", "bob") as store, Replica.stored(store) as me, session(server) as client:
+            [former] = me.formers
+            assert me.name.startswith("bob-") and former.startswith("ada-")
+            add(me, f"of {path.name}")
+            with pytest.raises(Differs, match=f"^from 2 on the server has other operations of {former} than this replica") as differs:
+                me.sync(client, "d")
+            assert differs.value.is_own and differs.value.replica == former
+            assert me.remake(f"new-{path.name}", client, "d").lost == []
+            # It is no copy any more: what it said of the name before isn't made again.
+            assert (me.name, me.formers, any(map(is_saying, me.operations()))) == (f"new-{path.name}", [], False)
+            me.sync(client, "d")
+    assert isinstance(synced(server, ada), tuple)
+    assert sorted(shown(server)["list"]) == ["another", "base", "of one", "of two", "unsent"]
+
+
+@pytest.mark.usefixtures("cloned")
 def test_two_copies_that_add_the_same_while_they_run(serve: Serve, tmp_path: Path) -> None:
     """What was made here and never sent isn't that of the server, however alike."""
     server, ada, copy = serve("d"), tmp_path / "ada", tmp_path / "copy"
