@@ -17,12 +17,12 @@ use crate::paths::{
     why_not_opened,
 };
 use crate::place::Place;
-use crate::placed_log::PlacedLog;
+use crate::sqlite_log::SqliteLog;
 use crate::wrong::wrong_of;
 use crate::{Fault, LogCopy, stored_fault_of};
 use log::Log;
 use server_notes::{Plain, note_log_unread, note_made, note_took_over};
-use sqlite::{Alter, Connection, Error, ErrorCode, File, FileStore, Files};
+use sqlite::{Alter, Connection, Error, ErrorCode, File, FileStore};
 use std::alloc::Global;
 use std::rt::HostRuntime;
 use std::time::Clock;
@@ -160,9 +160,6 @@ fn open_noted<R: Log + Clock>(
 /// The files of a stored log in SQLite.
 pub type SqliteFile = FileStore<File>;
 
-/// The stored log of a SQLite file.
-pub type SqliteLog = PlacedLog<SqliteFile, Files<File>, Place>;
-
 /// Stored logs in SQLite's files, by their paths. Notes of what was opened go to the second host.
 #[derive(Drop)]
 pub struct SqliteFiles<'a, R> {
@@ -208,7 +205,7 @@ impl<R: Log + Clock> OpenLog for SqliteFiles<'_, R> {
         }
         let log = open_noted(self.rt, self.notes, path)?;
         match Place::of(self.rt, path) {
-            Ok(place) => Ok(PlacedLog::new(place, log)),
+            Ok(place) => Ok(SqliteLog::new(place, log)),
             Err(error) => {
                 report_open_failure(self.rt, path, &why(&error));
                 Err(Fault::Store)

@@ -6,7 +6,7 @@ use std::rt::HostRuntime;
 
 /// The path of a file that was opened, and which file that was.
 #[derive(Drop)]
-pub struct Place {
+pub(crate) struct Place {
     rt: HostRuntime,
     path: String,
     device: u64,
@@ -35,7 +35,7 @@ impl Place {
 
     /// Whether the file is still at its path, under no other name. An error of the system that
     /// doesn't say so counts as if it were.
-    pub(crate) fn is_there(&self) -> bool {
+    pub(crate) fn has_file(&self) -> bool {
         match fs::metadata(&self.rt, self.path.as_str()) {
             Ok(found) => found.dev() == self.device
                 && found.ino() == self.inode

@@ -105,7 +105,7 @@ impl<S: Foldable + Drop> StoredLog for LogCopy<S> {
         self.add_batch(doc, from, entries)
     }
 
-    /// Its store can't be opened again: only a `PlacedLog` knows its files.
+    /// Its store can't be opened again: only `SqliteLog` knows its files.
     fn resume(&mut self, _doc: &str, _from: usize, _entries: &[Operation]) -> Result<(), Fault> {
         Err(Fault::Refused)
     }

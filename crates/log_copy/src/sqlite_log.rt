@@ -1,5 +1,5 @@
-//! A stored log whose store can be opened again after a fault. The store is a parameter: a call at
-//! SQLite's files as they are takes the prover a minute, and at any store a second.
+//! The stored log of a SQLite file, as a type without parameters:
+//! `main` picks it in a few steps then.
 ghost use Rattle.std.specs.Prelude.{◌≡◌, IfOk, IfErr, IfSome, MatchOption, Some, None, true, false};
 ghost use Rattle.std.specs.Prelude.{option_map, unwrap_or};
 ghost use Rattle.stored_log.specs.Log.{HasBatchAgain, HasSame};
@@ -7,44 +7,43 @@ ghost use Rattle.log_copy.specs.Again.{no_log, parts_log};
 ghost use Rattle.log_copy.specs.Kept.{IsStorable};
 ghost use Rattle.log_copy.specs.Port.{copied_log};
 
-use crate::LogCopy;
 use crate::again::{Failed, resumed};
 use crate::copy::Parts;
-use crate::fold::Foldable;
-use crate::port::append_there;
-use crate::reopen::Reopen;
+use crate::place::Place;
+use crate::port::{append_there, stored_fault_of};
+use crate::{LogCopy, SqliteFile};
 use op_core::Operation;
 use op_log::OpLog;
-use sqlite::Connection;
+use sqlite::{Connection, Error, ErrorCode, File, Files, Options};
 use std::alloc::Global;
+use std::hash::{BuildHasher, RandomState};
 use std::mem;
 use stored_log::{Fault, StoredDoc, StoredFault, StoredLog};
 
 /// What a stored log had whose files can't be used now, and the files, which stay locked. They are
 /// missing where a sync failed: then they are opened anew by their path.
 #[derive(Drop)]
-pub(crate) struct ShutLog<F: Drop> {
+pub(crate) struct ShutLog {
     parts: Parts,
-    files: Option<F>,
+    files: Option<Files<File>>,
     cause: StoredFault,
 }
 
-/// The stored log of a store whose files a place opens again. After a fault it may be shut, until
-/// that.
+/// The stored log of a SQLite file. After a fault it may be shut, until it is opened again.
 #[derive(Drop)]
-pub struct PlacedLog<S: Foldable + Drop, F: Drop, P: Reopen<Connection<S>, F>> {
-    place: P,
+pub struct SqliteLog {
+    place: Place,
     // The log, unless it is shut.
-    log: Option<LogCopy<S>>,
-    shut: Option<ShutLog<F>>,
+    log: Option<LogCopy<SqliteFile>>,
+    shut: Option<ShutLog>,
 }
 
-impl<S: Foldable + Drop, F: Drop, P: Reopen<Connection<S>, F>> PlacedLog<S, F, P> {
-    // The log of the store at this place.
-    pub(crate) fn new(place: P, log: LogCopy<S>) -> PlacedLog<S, F, P>
+impl SqliteLog {
+    // The log of the file at this place.
+    pub(crate) fn new(place: Place, log: LogCopy<SqliteFile>) -> SqliteLog
         ensures { result.log ≡ Some log }
     {
-        PlacedLog {
+        SqliteLog {
             place,
             log: Some(log),
             shut: None,
@@ -52,35 +51,37 @@ impl<S: Foldable + Drop, F: Drop, P: Reopen<Connection<S>, F>> PlacedLog<S, F, P
     }
 }
 
-/// The store of a stored log that was closed. Its drop closes the files.
+/// The SQLite file of a stored log that was closed. Its drop closes the file.
 #[derive(Drop)]
-pub struct ClosedLog<S: Drop> {
+pub struct ClosedFile {
     // None where it wasn't open.
-    pub(crate) file: Option<S>,
+    pub(crate) file: Option<SqliteFile>,
+}
+
+// The error of the database as one of a stored log.
+fn fault_of(error: &Error) -> StoredFault {
+    match error {
+        Error::SqliteFailure(ErrorCode::CannotOpen) => StoredFault::Io,
+        Error::SqliteFailure(code) => stored_fault_of(*code),
+        _ => StoredFault::Io,
+    }
 }
 
 // What a log had, with its files.
-fn shut_down<S: Foldable + Drop, F: Drop, P: Reopen<Connection<S>, F>>(
-    place: &P,
-    log: LogCopy<S>,
-) -> ShutLog<F>
+fn shut_down(log: LogCopy<SqliteFile>) -> ShutLog
     ensures { parts_log result.parts ≡ record (copied_log log) { has_failed = true } }
 {
     let cause = StoredLog::cause(&log).unwrap_or(StoredFault::Other);
     let (conn, parts) = log.into_parts();
     ShutLog {
         parts,
-        files: Some(place.into_files(conn)),
+        files: Some(conn.into_store().close()),
         cause,
     }
 }
 
 // What a log that has failed had, with its files.
-fn shut_of<S: Foldable + Drop, F: Drop, P: Reopen<Connection<S>, F>>(
-    place: &P,
-    log: Option<LogCopy<S>>,
-    shut: Option<ShutLog<F>>,
-) -> Option<ShutLog<F>>
+fn shut_of(log: Option<LogCopy<SqliteFile>>, shut: Option<ShutLog>) -> Option<ShutLog>
     requires failed { (unwrap_or (option_map copied_log log)
         (unwrap_or (option_map (λ s. parts_log s.parts) shut) no_log)).has_failed ≡ true }
     ensures some { IfSome result (λ it. parts_log it.parts ≡ unwrap_or (option_map copied_log log)
@@ -88,13 +89,44 @@ fn shut_of<S: Foldable + Drop, F: Drop, P: Reopen<Connection<S>, F>>(
     ensures none { result ≡ None → (log ≡ None) × (shut ≡ None) }
 {
     match log {
-        Some(log) => Some(shut_down(place, log)),
+        Some(log) => Some(shut_down(log)),
         None => shut,
     }
 }
 
+// Opens the file at the path, which is there.
+fn open_path(place: &Place) -> Result<Connection<SqliteFile>, (StoredFault, Option<Files<File>>)> {
+    match Connection::open(place.rt(), place.path()) {
+        Ok(conn) => Ok(conn),
+        Err(error) => Err((fault_of(&error), None)),
+    }
+}
+
+// Opens the files, which stay locked; by their path where a sync of them failed, since what the
+// system shows of them may not be what the disk has.
+fn open_files(
+    place: &Place,
+    files: Option<Files<File>>,
+) -> Result<Connection<SqliteFile>, (StoredFault, Option<Files<File>>)> {
+    let Some(files) = files else {
+        return open_path(place);
+    };
+    if !files.may_be_used() {
+        drop(files);
+        return open_path(place);
+    }
+    let Ok(random) = RandomState::new(place.rt()) else {
+        return Err((StoredFault::Io, Some(files)));
+    };
+    let options = Options::new(random.hash_one(&0u8));
+    match Connection::open_files(place.rt().alloc(), files, options) {
+        Ok(conn) => Ok(conn),
+        Err((error, left)) => Err((fault_of(&error), Some(left.into_files()))),
+    }
+}
+
 // Why a log is shut.
-fn cause_of_shut<F: Drop>(shut: &Option<ShutLog<F>>) -> StoredFault {
+fn cause_of_shut(shut: &Option<ShutLog>) -> StoredFault {
     match shut {
         Some(shut) => shut.cause,
         None => StoredFault::Other,
@@ -111,15 +143,15 @@ fn cause_again(fault: Fault, cause: Option<StoredFault>) -> StoredFault {
 }
 
 // Opens the files again.
-fn opened_again<S: Foldable + Drop, F: Drop, P: Reopen<Connection<S>, F>>(
-    place: &P,
-    shut: ShutLog<F>,
+fn opened_again(
+    place: &Place,
+    shut: ShutLog,
     failed: &Failed<'_>,
-) -> Result<LogCopy<S>, (Fault, ShutLog<F>)>
+) -> Result<LogCopy<SqliteFile>, (Fault, ShutLog)>
     ensures again { IfOk result (λ c. HasBatchAgain failed.now.doc.now failed.now.from failed.now.entries.now
         (parts_log shut.parts) (copied_log c)) }
     ensures alone { IfOk result (λ c. c.is_alone ≡ shut.parts.is_alone) }
-    ensures stays { IfOk result (λ c. ⟦<LogCopy<S> as StoredLog>⟧.survives c (HasSame (copied_log c))) }
+    ensures stays { IfOk result (λ c. ⟦<LogCopy<SqliteFile> as StoredLog>⟧.survives c (HasSame (copied_log c))) }
     ensures err { IfErr result (λ e. parts_log e.1.parts ≡ parts_log shut.parts) }
 {
     let ShutLog {
@@ -138,7 +170,7 @@ fn opened_again<S: Foldable + Drop, F: Drop, P: Reopen<Connection<S>, F>>(
             },
         ));
     }
-    let conn = match place.open_files(files) {
+    let conn = match open_files(place, files) {
         Ok(conn) => conn,
         Err((cause, files)) => return Err((
             Fault::Store,
@@ -149,10 +181,10 @@ fn opened_again<S: Foldable + Drop, F: Drop, P: Reopen<Connection<S>, F>>(
             },
         )),
     };
-    match resumed(place.alloc(), conn, &parts, failed) {
+    match resumed(place.rt().alloc(), conn, &parts, failed) {
         Ok(log) => Ok(log),
         Err((fault, why, conn)) => {
-            let files = Some(place.into_files(conn));
+            let files = Some(conn.into_store().close());
             let cause = cause_again(fault, why);
             Err((
                 fault,
@@ -167,42 +199,37 @@ fn opened_again<S: Foldable + Drop, F: Drop, P: Reopen<Connection<S>, F>>(
 }
 
 // Folds the log.
-fn fold_log<S: Foldable + Drop, F: Drop, P: Reopen<Connection<S>, F>>(
-    place: P,
-    log: LogCopy<S>,
-) -> Result<PlacedLog<S, F, P>, (StoredFault, ClosedLog<S>)>
+fn fold_log(place: Place, log: LogCopy<SqliteFile>) -> Result<SqliteLog, (StoredFault, ClosedFile)>
     ensures same { IfOk result (λ it. unwrap_or (option_map copied_log it.log)
         (unwrap_or (option_map (λ s. parts_log s.parts) it.shut) no_log) ≡ copied_log log) }
     ensures folded { IfOk result (λ it. log.has_failed ≡ false → MatchOption it.log ⊥
-        (λ d. ⟦<LogCopy<S> as StoredLog>⟧.was_alone log d)) }
+        (λ d. ⟦<LogCopy<SqliteFile> as StoredLog>⟧.was_alone log d)) }
     ensures left { IfErr result (λ e. log.has_failed ≡ false → MatchOption e.1.file ⊥
-        (λ f. ⟦<LogCopy<S> as StoredLog>⟧.is_in_store log f)) }
+        (λ f. ⟦<LogCopy<SqliteFile> as StoredLog>⟧.is_in_store log f)) }
 {
     match StoredLog::fold(log) {
-        Ok(log) => Ok(PlacedLog::new(place, log)),
-        Err((fault, file)) => Err((fault, ClosedLog { file: Some(file) })),
+        Ok(log) => Ok(SqliteLog::new(place, log)),
+        Err((fault, file)) => Err((fault, ClosedFile { file: Some(file) })),
     }
 }
 
 // Closes the log.
-fn close_log<S: Foldable + Drop>(
-    log: LogCopy<S>,
-) -> Result<ClosedLog<S>, (StoredFault, ClosedLog<S>)>
+fn close_log(log: LogCopy<SqliteFile>) -> Result<ClosedFile, (StoredFault, ClosedFile)>
     ensures folded { IfOk result (λ last. log.has_failed ≡ false → MatchOption last.file ⊥
-        (λ f. ⟦<LogCopy<S> as StoredLog>⟧.is_in_file log f)) }
+        (λ f. ⟦<LogCopy<SqliteFile> as StoredLog>⟧.is_in_file log f)) }
     ensures copied { IfOk result (λ last. MatchOption last.file ⊥
-        (λ f. ⟦<LogCopy<S> as StoredLog>⟧.has_moved log f)) }
+        (λ f. ⟦<LogCopy<SqliteFile> as StoredLog>⟧.has_moved log f)) }
     ensures left { IfErr result (λ e. log.has_failed ≡ false → MatchOption e.1.file ⊥
-        (λ f. ⟦<LogCopy<S> as StoredLog>⟧.is_in_store log f)) }
+        (λ f. ⟦<LogCopy<SqliteFile> as StoredLog>⟧.is_in_store log f)) }
 {
     match StoredLog::close(log) {
-        Ok(file) => Ok(ClosedLog { file: Some(file) }),
-        Err((fault, file)) => Err((fault, ClosedLog { file: Some(file) })),
+        Ok(file) => Ok(ClosedFile { file: Some(file) }),
+        Err((fault, file)) => Err((fault, ClosedFile { file: Some(file) })),
     }
 }
 
 // A law: what it had in memory is storable. It does nothing.
-fn keeps_storable<F: Drop>(shut: &Option<ShutLog<F>>)
+fn keeps_storable(shut: &Option<ShutLog>)
     ensures { IfSome shut.now (λ s. IsStorable s.parts.epoch s.parts.docs) }
 {
     if let Some(shut) = shut {
@@ -210,8 +237,8 @@ fn keeps_storable<F: Drop>(shut: &Option<ShutLog<F>>)
     }
 }
 
-impl<S: Foldable + Drop, F: Drop, P: Reopen<Connection<S>, F>> StoredLog for PlacedLog<S, F, P> {
-    type Left = ClosedLog<S>;
+impl StoredLog for SqliteLog {
+    type Left = ClosedFile;
 
     ghost use Rattle.log_copy.specs.Again.{parts_log, no_log};
     ghost use Rattle.log_copy.specs.Port.{copied_log, if_there, keeps_such};
@@ -220,23 +247,23 @@ impl<S: Foldable + Drop, F: Drop, P: Reopen<Connection<S>, F>> StoredLog for Pla
     ghost log = { λ it. unwrap_or (option_map copied_log it.log)
         (unwrap_or (option_map (λ s. parts_log s.parts) it.shut) no_log) };
 
-    ghost survives = { λ it such. MatchOption it.log ⊥ (λ c. ⟦<LogCopy<S> as StoredLog>⟧.survives c such) };
+    ghost survives = { λ it such. MatchOption it.log ⊥ (λ c. ⟦<LogCopy<SqliteFile> as StoredLog>⟧.survives c such) };
 
     ghost was_alone = { λ old new. MatchOption old.log ⊥ (λ c. MatchOption new.log ⊥
-        (λ d. ⟦<LogCopy<S> as StoredLog>⟧.was_alone c d)) };
+        (λ d. ⟦<LogCopy<SqliteFile> as StoredLog>⟧.was_alone c d)) };
 
     ghost is_in_file = { λ it last. MatchOption it.log ⊥ (λ c. MatchOption last.file ⊥
-        (λ f. ⟦<LogCopy<S> as StoredLog>⟧.is_in_file c f)) };
+        (λ f. ⟦<LogCopy<SqliteFile> as StoredLog>⟧.is_in_file c f)) };
 
     ghost is_in_store = { λ it last. MatchOption it.log ⊥ (λ c. MatchOption last.file ⊥
-        (λ f. ⟦<LogCopy<S> as StoredLog>⟧.is_in_store c f)) };
+        (λ f. ⟦<LogCopy<SqliteFile> as StoredLog>⟧.is_in_store c f)) };
 
     ghost has_moved = { λ it last. MatchOption it.log ⊥ (λ c. MatchOption last.file ⊥
-        (λ f. ⟦<LogCopy<S> as StoredLog>⟧.has_moved c f)) };
+        (λ f. ⟦<LogCopy<SqliteFile> as StoredLog>⟧.has_moved c f)) };
 
     ghost still_keeps = { λ it first last kept left. if_there
-        {P = λ c. ⟦<LogCopy<S> as StoredLog>⟧.survives c (IsRaisedOrNot last)}
-        {Q = λ c. ⟦<LogCopy<S> as StoredLog>⟧.survives c (KeepsAll first)} it.log
+        {P = λ c. ⟦<LogCopy<SqliteFile> as StoredLog>⟧.survives c (IsRaisedOrNot last)}
+        {Q = λ c. ⟦<LogCopy<SqliteFile> as StoredLog>⟧.survives c (KeepsAll first)} it.log
         (λ c was alone clean db may. keeps_such first last kept db (was alone clean db may)) left };
 
     fn cause(&self) -> Option<StoredFault> {
@@ -300,7 +327,7 @@ impl<S: Foldable + Drop, F: Drop, P: Reopen<Connection<S>, F>> StoredLog for Pla
     fn resume(&mut self, doc: &str, from: usize, entries: &[Operation]) -> Result<(), Fault> {
         let log = mem::replace(&mut self.log, None);
         let shut = mem::replace(&mut self.shut, None);
-        let Some(shut) = shut_of(&self.place, log, shut) else {
+        let Some(shut) = shut_of(log, shut) else {
             return Err(Fault::Store);
         };
         let failed = Failed { doc, from, entries };
@@ -316,23 +343,23 @@ impl<S: Foldable + Drop, F: Drop, P: Reopen<Connection<S>, F>> StoredLog for Pla
         }
     }
 
-    fn fold(self) -> Result<PlacedLog<S, F, P>, (StoredFault, ClosedLog<S>)> {
-        let PlacedLog { place, log, shut } = self;
+    fn fold(self) -> Result<SqliteLog, (StoredFault, ClosedFile)> {
+        let SqliteLog { place, log, shut } = self;
         match log {
             Some(log) => fold_log(place, log),
-            None => Err((cause_of_shut(&shut), ClosedLog { file: None })),
+            None => Err((cause_of_shut(&shut), ClosedFile { file: None })),
         }
     }
 
-    fn close(self) -> Result<ClosedLog<S>, (StoredFault, ClosedLog<S>)> {
-        let PlacedLog {
+    fn close(self) -> Result<ClosedFile, (StoredFault, ClosedFile)> {
+        let SqliteLog {
             place: _,
             log,
             shut,
         } = self;
         match log {
             Some(log) => close_log(log),
-            None => Err((cause_of_shut(&shut), ClosedLog { file: None })),
+            None => Err((cause_of_shut(&shut), ClosedFile { file: None })),
         }
     }
 }

@@ -1,7 +1,0 @@
-use Rattle.log_copy.proofs.placed_log.PlacedLogStoredLog.fold.Goals as goal
-
-pub returns-in-Some-clause-folded : goal.returns-in-Some-clause-folded
-returns-in-Some-clause-folded g c = rw c.in-Some.is c.fold_log.ensures.folded
-
-pub returns-in-Some-clause-left : goal.returns-in-Some-clause-left
-returns-in-Some-clause-left g c = rw c.in-Some.is c.fold_log.ensures.left

@@ -1,0 +1,7 @@
+use Rattle.log_copy.proofs.sqlite_log.SqliteLogStoredLog.fold.Goals as goal
+
+pub returns-in-Some-clause-folded : goal.returns-in-Some-clause-folded
+returns-in-Some-clause-folded c = rw c.in-Some.is c.fold_log.ensures.folded
+
+pub returns-in-Some-clause-left : goal.returns-in-Some-clause-left
+returns-in-Some-clause-left c = rw c.in-Some.is c.fold_log.ensures.left
