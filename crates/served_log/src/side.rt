@@ -30,10 +30,9 @@ impl Watch {
 
 // Waits until the copier should look again, after a look at which it copied at most so many entries
 // of a document. It returns what the signal has counted by then.
-fn next_look<M: Marker, R: Wait, T: CopyObserver>(
+fn next_look<M: Marker, R: Wait>(
     rt: &R,
     shared: &SharedDocuments<M>,
-    observer: &T,
     watch: &Watch,
     most: usize,
 ) -> Signalled {
@@ -43,7 +42,7 @@ fn next_look<M: Marker, R: Wait, T: CopyObserver>(
     }
     // Where sessions wait for each batch, it grows until they all wait again.
     if shared.progress.pace() == Pace::Durable {
-        shared.progress.gather(rt, observer.took());
+        shared.progress.gather(rt);
         return watch.seen;
     }
     shared.signal.pause(rt, watch.seen)
@@ -82,10 +81,9 @@ fn tries_after(watch: &Watch, found: Found) -> u32 {
 // Waits until the copier should look again, after it found this. It returns what
 // the signal has counted by then, or none where nothing will come, and all is
 // copied or memory has lacked too often.
-fn wait_after<M: Marker, R: Wait, T: CopyObserver>(
+fn wait_after<M: Marker, R: Wait>(
     rt: &R,
     shared: &SharedDocuments<M>,
-    observer: &T,
     watch: &Watch,
     found: Found,
 ) -> Option<Signalled> {
@@ -97,7 +95,7 @@ fn wait_after<M: Marker, R: Wait, T: CopyObserver>(
             }
             Some(shared.signal.wait(rt, watch.seen))
         }
-        Found::Some(most) => Some(next_look(rt, shared, observer, watch, most)),
+        Found::Some(most) => Some(next_look(rt, shared, watch, most)),
         Found::NoMemory => {
             if watch.tries >= LAST_TRIES {
                 return None;
@@ -202,7 +200,7 @@ pub fn keep_up<M: Marker, R: Wait, L: StoredLog, T: CopyObserver>(
             Ok(found) => {
                 lacked = lacks(found);
                 watch.tries = tries_after(&watch, found);
-                match wait_after(rt, shared, observer, &watch, found) {
+                match wait_after(rt, shared, &watch, found) {
                     Some(next) => watch.seen = next,
                     None => return Ok(()),
                 }
