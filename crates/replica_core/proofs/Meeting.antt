@@ -1,7 +1,7 @@
 -- How the expected outcome comes about.
-use Rattle.std.proofs.Common.{◌≡◌, ◌<◌, ◌≤◌, inl, inr, ℕ, suc, le-leb, leb-true, arith, List, [], ◌∷◌, length, nat_le, Bool, true, false, true≢false, not, ◌&&◌, bytes_eq, Option, Some, None, Result, Ok, Err, if◌then◌else◌, refl, sym, ap, subst, ◌∙◌}
+use Rattle.std.proofs.Common.{◌≡◌, ◌<◌, ◌≤◌, inl, inr, ℕ, suc, le-leb, leb-true, arith, List, [], ◌∷◌, length, nat_le, Bool, true, false, true≢false, not, ◌&&◌, is_ok, bytes_eq, Option, Some, None, Result, Ok, Err, if◌then◌else◌, refl, sym, ap, subst, ◌∙◌}
 use Rattle.std.specs.Prelude.{⊤, IfOk, IfErr, OnErr, is_some}
-use Rattle.std.proofs.lemmas.Bool.{false_from_ne_true}
+use Rattle.std.proofs.lemmas.Bool.{false_from_ne_true, not-true, and_parts}
 use Rattle.doc_api.specs.Words.{Refusal, NoMemory, Op}
 use Rattle.std.specs.Option.{option_map}
 use Rattle.json_scalar.specs.declared.refusal.Refusal.TheVariants.{IdConflict, OwnName, HeldFull}
@@ -9,12 +9,13 @@ use Rattle.op_core.specs.Equality.{operation_eq}
 use Rattle.op_core.specs.Limits.{most_held}
 use Rattle.doc_api.specs.declared.reply.Reply.{Reply}
 use Rattle.doc_api.specs.declared.reply.Reply.TheVariants as reply
-use Rattle.crdt_rules.specs.Dependencies.{is_ready, missing}
+use Rattle.crdt_rules.specs.Dependencies.{is_logged, is_ready, missing}
+use Rattle.op_log.proofs.Ids.{is_logged-find_id}
 use Rattle.doc_rules.specs.Cause.{cause_of}
 use Rattle.doc_rules.specs.Events.{Expected, replied, held, logged, Settles, no, first_row, is_same, expected_by_cause, expected_of_delivery}
 use Rattle.doc_rules.specs.Replica.{Replica, Drains, append, find_id}
 use Rattle.replica_core.specs.declared.outcome.Applied.{Applied}
-use Rattle.replica_core.specs.Memory.{NeedsMemory}
+use Rattle.replica_core.specs.Memory.{NeedsMemory, is_to_log}
 use Rattle.replica_core.specs.Outcomes.{Meets, reply_of_applied}
 use Rattle.replica_core.specs.Whole.{Contents, replica_with, with_logged}
 
@@ -114,6 +115,62 @@ module _ (r : Replica) (op : Op) (new : find_id r.log op.id ≡ None) (unheld : 
       by true ready h e = absurd (true≢false (sym h))
       by false true h e = absurd (true≢false (sym e))
       by false false h e = refl
+
+-- ---- what is logged
+
+abbrev by_all : Bool → Bool → Bool → Bool → Bool → Bool → Bool → Reply → Reply → Expected → Op → Expected
+by_all equal has equal_held has_held own ready full one other due op =
+    first_row
+    ((equal, replied one) ∷ (has, no IdConflict) ∷ (equal_held, replied other) ∷ (has_held, no IdConflict) ∷ (own, no OwnName) ∷ (not ready && full, no HeldFull) ∷ (not ready, held op) ∷ [])
+    due
+
+-- it has a new id, is another's, is ready, and has no cause against it
+logged_only : (equal has equal_held has_held own ready full : Bool) (one other : Reply) (due : Expected) (op : Op)
+    → by_all equal has equal_held has_held own ready full one other due op ≡ logged op
+    → (has ≡ false) × (has_held ≡ false) × (own ≡ false) × (ready ≡ true) × (due ≡ logged op)
+logged_only true has equal_held has_held own ready full one other due op e = absurd (cc)
+logged_only false true equal_held has_held own ready full one other due op e = absurd (cc)
+logged_only false false true has_held own ready full one other due op e = absurd (cc)
+logged_only false false false true own ready full one other due op e = absurd (cc)
+logged_only false false false false true ready full one other due op e = absurd (cc)
+logged_only false false false false false false true one other due op e = absurd (cc)
+logged_only false false false false false false false one other due op e = absurd (cc)
+logged_only false false false false false true full one other due op e = (refl, refl, refl, refl, e)
+
+unlike_none : (op : Op) (o : Option Op) → is_some o ≡ false → is_same op o ≡ false
+unlike_none op None h = refl
+unlike_none op (Some x) h = absurd (true≢false h)
+
+without_cause : (cause : Result ⊤ Refusal) (op : Op) → is_ok cause ≡ true → expected_by_cause cause op ≡ logged op
+without_cause (Ok x) op h = refl
+without_cause (Err e) op h = absurd (true≢false (sym h))
+
+no_cause : (cause : Result ⊤ Refusal) (op : Op) → expected_by_cause cause op ≡ logged op → is_ok cause ≡ true
+no_cause (Ok x) op h = refl
+no_cause (Err e) op h = absurd (cc)
+
+pub to_log : (r : Replica) (op : Op) → is_to_log r op ≡ true → expected_of_delivery r op ≡ logged op
+to_log r op h =
+    let ready = and_parts _ (is_ok (cause_of op r.log)) h in
+    let others = and_parts _ (is_ready op r.log) ready.0 in
+    let unheld = and_parts _ (not (bytes_eq op.id.replica r.name)) others.0 in
+    let new = and_parts (not (is_logged r.log op.id)) (not (is_logged r.held op.id)) unheld.0 in
+    let none : is_some (find_id r.log op.id) ≡ false = sym (is_logged-find_id r.log op.id) ∙ not-true _ new.0 in
+    let none_held : is_some (find_id r.held op.id) ≡ false = sym (is_logged-find_id r.held op.id) ∙ not-true _ new.1 in
+    let other = not-true _ unheld.1 in
+    let equal = unlike_none op (find_id r.log op.id) none in
+    let equal_held = unlike_none op (find_id r.held op.id) none_held in
+    (λ i. by_all (equal i) (none i) (equal_held i) (none_held i) (other i) (others.1 i) (nat_le most_held (length r.held)) reply.Known (reply.Held (missing op r.log))
+    (expected_by_cause (cause_of op r.log) op) op)
+    ∙ without_cause (cause_of op r.log) op ready.1
+
+pub from_log : (r : Replica) (op : Op) → expected_of_delivery r op ≡ logged op → is_to_log r op ≡ true
+from_log r op e =
+    let found = logged_only _ (is_some (find_id r.log op.id)) _ (is_some (find_id r.held op.id)) _ _ _ _ _ (expected_by_cause (cause_of op r.log) op) op e in
+    let new = is_logged-find_id r.log op.id ∙ found.0 in
+    let unheld = is_logged-find_id r.held op.id ∙ found.1 in
+    let ok = no_cause (cause_of op r.log) op found.4 in
+    λ i. not (new i) && not (unheld i) && not (found.2 i) && found.3 i && ok i
 
 -- the expected outcome, under another name
 pub meets_as : (r : Replica) (due other : Expected) (answer : Reply) (s : Replica) → due ≡ other → Meets r due answer s → Meets r other answer s

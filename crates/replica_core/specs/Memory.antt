@@ -1,7 +1,11 @@
 -- Where a replica may be out of memory.
+use Rattle.std.specs.Prelude.{◌≡◌, Bool, not, ◌&&◌, bytes_eq, is_ok}
 use Rattle.doc_api.specs.declared.ask.Command.{Command}
 use Rattle.doc_api.specs.declared.ask.Command.TheVariants.{Change, Deliver, Forget}
 use Rattle.doc_api.specs.declared.reply.Reply.TheVariants.{Held}
+use Rattle.doc_api.specs.Words.{Op}
+use Rattle.crdt_rules.specs.Dependencies.{is_logged, is_ready}
+use Rattle.doc_rules.specs.Cause.{cause_of}
 use Rattle.doc_rules.specs.Events.{Expected, replied, held, logged, expected_of_delivery}
 use Rattle.doc_rules.specs.Replica.{Replica}
 
@@ -18,3 +22,16 @@ abbrev pub MayLack : Replica → Command → Type 0
 MayLack r (Change place m) = Unit {0}
 MayLack r (Deliver op) = NeedsMemory (expected_of_delivery r op)
 MayLack r (Forget i) = ⊥
+
+-- A command may log something.
+abbrev pub MayLog : Replica → Command → Type 0
+MayLog r (Change place m) = Unit {0}
+MayLog r (Deliver op) = expected_of_delivery r op ≡ logged op
+MayLog r (Forget i) = ⊥
+
+-- So a delivery is logged: its id is neither logged nor held, another replica made it, it is ready,
+-- and nothing is against it.
+abbrev pub is_to_log : Replica → Op → Bool
+is_to_log r op =
+    not (is_logged r.log op.id) && not (is_logged r.held op.id) && not (bytes_eq op.id.replica r.name)
+    && is_ready op r.log && is_ok (cause_of op r.log)

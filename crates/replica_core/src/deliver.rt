@@ -10,6 +10,7 @@ ghost use Rattle.doc_rules.specs.Cause.{cause_of};
 ghost use Rattle.doc_rules.specs.Events as expected;
 ghost use Rattle.doc_rules.specs.Events.{expected_by_cause, expected_of_delivery};
 ghost use Rattle.doc_rules.specs.Replica.{Replica, find_id};
+ghost use Rattle.replica_core.specs.Memory.{is_to_log};
 ghost use Rattle.replica_core.specs.Outcomes.{Meets, reply_of_delivered};
 ghost use Rattle.replica_core.specs.Whole.{replica_with};
 
@@ -35,6 +36,17 @@ impl Body {
             Some(is_same) => known_or_conflict(is_same),
             None => self.deliver_unlogged(name, op),
         }
+    }
+
+    /// Whether a delivery of the operation would log it, if memory suffices. Allocates nothing.
+    pub fn would_log(&self, name: &ReplicaName, op: &Operation) -> bool
+        ensures { result ≡ is_to_log (replica_with name.now self.now) op.now }
+    {
+        !self.log().contains(op.id())
+            && !self.held().contains(op.id())
+            && !is_by(op, name)
+            && self.log().is_ready(op)
+            && self.log().check(op).is_ok()
     }
 
     // Whether the logged operation of its id is the operation, if there is one.

@@ -1,12 +1,12 @@
 //! The replica.
-ghost use Rattle.std.specs.Prelude.{◌≡◌, [], Err, OnOk, IfOk, IfErr};
+ghost use Rattle.std.specs.Prelude.{◌≡◌, ◌↔◌, [], Err, IsTrue, OnOk, IfOk, IfErr};
 ghost use Rattle.json_scalar.specs.declared.refusal.Refusal.TheVariants.{NoMemory};
 ghost use Rattle.crdt_rules.specs.Log.{IsGood};
 ghost use Rattle.doc_rules.specs.Answers.{GoesByCounts, MayAnswer, Reads};
 ghost use Rattle.doc_rules.specs.Events.{Does, Event};
 ghost use Rattle.doc_rules.specs.Replica.{IsValidReplica};
 ghost use Rattle.doc_api.specs.declared.ask.Command.TheVariants as command;
-ghost use Rattle.replica_core.specs.Memory.{MayLack};
+ghost use Rattle.replica_core.specs.Memory.{MayLack, MayLog};
 ghost use Rattle.replica_core.specs.Misfits.{IsMisfitOf};
 ghost use Rattle.replica_core.specs.AgreesWith.{AgreesWith};
 ghost use Rattle.replica_core.specs.Outcomes.{reply_of_applied, reply_of_delivered};
@@ -178,6 +178,18 @@ impl Replica {
         ensures counted { GoesByCounts query → Reads self.now counts query result }
     {
         self.body.read(self.alloc, counts, query)
+    }
+
+    /// Whether a command may log anything: a change of one's own, or a delivery that would be logged
+    /// if memory suffices. Allocates nothing.
+    pub fn may_log(&self, command: &Command) -> bool
+        ensures { IsTrue result ↔ MayLog self.now command.now }
+    {
+        match command {
+            Command::Change(_, _) => true,
+            Command::Deliver(op) => self.body.would_log(&self.name, op),
+            Command::Forget(_) => false,
+        }
     }
 
     /// Runs a command, and returns the answer of `local`, `deliver` or `forget` as a reply. A

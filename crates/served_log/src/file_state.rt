@@ -17,6 +17,8 @@ pub struct FileState {
     // When the batch was begun that is being written, and when the last one was written; 0 for none.
     begun: AtomicU64,
     written: AtomicU64,
+    // How long the last batch took.
+    took: AtomicU64,
     // By document.
     replicas: Vec<AtomicU64>,
 }
@@ -105,6 +107,7 @@ impl FileState {
             batches: AtomicU64::new(0),
             begun: AtomicU64::new(0),
             written: AtomicU64::new(0),
+            took: AtomicU64::new(0),
             replicas,
         })
     }
@@ -145,9 +148,17 @@ impl FileState {
 
     // A batch was written.
     pub(crate) fn end<R: Clock>(&self, rt: &R) {
+        let now = millis(rt);
+        let began = self.begun.load(Ordering::SeqCst);
+        self.took.store(now.saturating_sub(began), Ordering::SeqCst);
         self.begun.store(0, Ordering::SeqCst);
-        self.written.store(millis(rt), Ordering::SeqCst);
+        self.written.store(now, Ordering::SeqCst);
         self.batches.fetch_add(1, Ordering::SeqCst);
+    }
+
+    // How many milliseconds the last batch took; 0 where there was none.
+    pub(crate) fn took(&self) -> u64 {
+        self.took.load(Ordering::SeqCst)
     }
 
     // The store failed, and is opened again.

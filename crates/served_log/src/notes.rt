@@ -114,6 +114,10 @@ impl<R: Log + Clock, D: Deadline> CopyObserver for CopyLogger<'_, R, D> {
         self.file.begin(self.rt);
     }
 
+    fn took(&self) -> u64 {
+        self.file.took()
+    }
+
     fn added(&self, document: &StoredDoc, entries: &[Operation]) {
         self.file.end(self.rt);
         let logged = operations(document.len());

@@ -8,6 +8,12 @@ pub trait CopyObserver {
     /// Called before each batch is written.
     fn adds(&self) {}
 
+    /// How many milliseconds the last batch took; 0 where that isn't known. A copier waits no longer
+    /// for sessions that could share the next one.
+    fn took(&self) -> u64 {
+        0
+    }
+
     /// Called after each batch, with the document as it is stored and the entries that were just
     /// written.
     fn added(&self, document: &StoredDoc, entries: &[Operation]);

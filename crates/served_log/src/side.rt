@@ -30,9 +30,10 @@ impl Watch {
 
 // Waits until the copier should look again, after a look at which it copied at most so many entries
 // of a document. It returns what the signal has counted by then.
-fn next_look<M: Marker, R: Wait>(
+fn next_look<M: Marker, R: Wait, T: CopyObserver>(
     rt: &R,
     shared: &SharedDocuments<M>,
+    observer: &T,
     watch: &Watch,
     most: usize,
 ) -> Signalled {
@@ -42,7 +43,7 @@ fn next_look<M: Marker, R: Wait>(
     }
     // Where sessions wait for each batch, it grows until they all wait again.
     if shared.progress.pace() == Pace::Durable {
-        shared.progress.gather(rt);
+        shared.progress.gather(rt, observer.took());
         return watch.seen;
     }
     shared.signal.pause(rt, watch.seen)
@@ -81,9 +82,10 @@ fn tries_after(watch: &Watch, found: Found) -> u32 {
 // Waits until the copier should look again, after it found this. It returns what
 // the signal has counted by then, or none where nothing will come, and all is
 // copied or memory has lacked too often.
-fn wait_after<M: Marker, R: Wait>(
+fn wait_after<M: Marker, R: Wait, T: CopyObserver>(
     rt: &R,
     shared: &SharedDocuments<M>,
+    observer: &T,
     watch: &Watch,
     found: Found,
 ) -> Option<Signalled> {
@@ -95,7 +97,7 @@ fn wait_after<M: Marker, R: Wait>(
             }
             Some(shared.signal.wait(rt, watch.seen))
         }
-        Found::Some(most) => Some(next_look(rt, shared, watch, most)),
+        Found::Some(most) => Some(next_look(rt, shared, observer, watch, most)),
         Found::NoMemory => {
             if watch.tries >= LAST_TRIES {
                 return None;
@@ -200,7 +202,7 @@ pub fn keep_up<M: Marker, R: Wait, L: StoredLog, T: CopyObserver>(
             Ok(found) => {
                 lacked = lacks(found);
                 watch.tries = tries_after(&watch, found);
-                match wait_after(rt, shared, &watch, found) {
+                match wait_after(rt, shared, observer, &watch, found) {
                     Some(next) => watch.seen = next,
                     None => return Ok(()),
                 }

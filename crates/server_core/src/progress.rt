@@ -62,15 +62,23 @@ fn next_step(pace: Pace, stored: Option<u64>, count: u64) -> Turn
     }
 }
 
-// For how many sessions at most `Progress::gather` waits. More take longer to come back than most
-// disks take to sync.
-const MOST_GATHERED: u64 = 32;
+// For how many sessions at most `Progress::gather` waits.
+const MOST_GATHERED: u64 = 256;
 
-// How often `Progress::gather` sleeps at most, and for how many microseconds each time. It ends
-// where no session came meanwhile.
-const SLEEPS: u32 = 3;
+// How often `Progress::gather` may sleep behind a batch that took no time, and behind one that took
+// long, and for how many microseconds each time.
+const LEAST_SLEEPS: u64 = 3;
+
+const MOST_SLEEPS: u64 = 100;
 
 const SHORT_SLEEP: u64 = 100;
+
+// How often `Progress::gather` may sleep behind a batch that took so many milliseconds.
+fn sleeps_after(took: u64) -> u64 {
+    took.saturating_mul(1000 / SHORT_SLEEP)
+        .min(MOST_SLEEPS)
+        .max(LEAST_SLEEPS)
+}
 
 /// Of each document, how many of its operations the file has. A copier says so, and sessions wait
 /// for it. They hold no lock meanwhile.
@@ -160,21 +168,33 @@ impl Progress {
         wanted != 0 && missing > 0 && missing <= MOST_GATHERED
     }
 
-    /// After a batch, waits for the sessions that it let go, so that the next batch is of all of
-    /// them: until as many wait again as waited before it, and at most some hundred microseconds.
-    /// It waits for no more than 32, and not for one alone.
-    pub fn gather<R: Wait>(&self, rt: &R) {
-        for _ in 0..SLEEPS {
+    // Sleeps shortly, unless the count of `waits` isn't this one, and less where the last session
+    // comes that the copier waits for. Returns whether none came.
+    fn sleep_shortly<R: Wait>(&self, rt: &R, waits: u64) -> bool {
+        let low = (waits & 0xffff_ffff) as u32;
+        self.waits
+            .park_timeout(rt, low, Duration::from_micros(SHORT_SLEEP));
+        self.waits.load(Ordering::SeqCst) == waits
+    }
+
+    /// After a batch that took so many milliseconds, waits for the sessions that it let go, so that
+    /// the next batch is of all of them: until as many wait again as waited before it, at most for as
+    /// long as it took, and no more than a quarter of that while none comes. It waits for 10 ms at
+    /// most, and for 0.3 ms where the batch took less. It waits for no more than 256 sessions, and
+    /// not for one alone.
+    pub fn gather<R: Wait>(&self, rt: &R, took: u64) {
+        let most = sleeps_after(took);
+        let mut silent: u64 = 0;
+        for _ in 0..most {
             let waits = self.waits.load(Ordering::SeqCst);
-            if !self.misses(waits) {
+            if !self.misses(waits) || silent > most / 4 {
                 break;
             }
-            let low = (waits & 0xffff_ffff) as u32;
-            self.waits
-                .park_timeout(rt, low, Duration::from_micros(SHORT_SLEEP));
-            if self.waits.load(Ordering::SeqCst) == waits {
-                break;
-            }
+            silent = if self.sleep_shortly(rt, waits) {
+                silent.saturating_add(1)
+            } else {
+                0
+            };
         }
         self.wanted.store(0, Ordering::SeqCst);
         let waiting = self.waiting.load(Ordering::SeqCst);

@@ -36,12 +36,13 @@ impl<X: Drop, O: Drop> SmallVec<X, O> {
         }
     }
 
-    /// Makes room for so many elements more, and for no others. Out of memory,
-    /// the elements stay as they are.
+    /// Makes room for so many elements more, and for no others. It never fails where there is room.
+    /// Out of memory, the elements stay as they are.
     pub fn reserve_exact(&mut self, alloc: Global, additional: usize) -> Result<(), AllocError>
         ensures same { (other : O → List X) → elements_by other self.old ≡ elements self.old
             → elements_by other self.new ≡ elements self.old }
         ensures room { OnOk result (length (elements self.new) + additional ≤ room self.new) }
+        ensures succeeds { length (elements self.old) + additional ≤ room self.old → IsOk result }
     {
         match self {
             SmallVec::Other(_) => {
