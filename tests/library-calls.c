@@ -1,6 +1,6 @@
 /* Calls of the library that go wrong: each allocation of a session refused in turn, handles that own nothing or something already, rooms
-   that are too small, lines that don't fit, and what memory stays behind a large reading. Prints one line, or what went wrong, with
-   status 1. */
+   that are too small, lines that don't fit, what memory stays behind a large reading, and what a replica takes that is opened with lines.
+   Prints one line, or what went wrong, with status 1. */
 
 #include "jcrdt.h"
 #include <malloc.h>
@@ -135,6 +135,30 @@ static void large_reading(void) {
   jcrdt_close(&replica);
 }
 
+/* A replica that is opened with the lines of a typed text takes hardly more memory than that in which it was typed. */
+static void opened_text(void) {
+  enum { TYPED = 3000, LONGEST = 128 };
+  static char lines[TYPED * LONGEST], request[64];
+  jcrdt typed = JCRDT_CLOSED, opened = JCRDT_CLOSED;
+  jcrdt_fault fault;
+  size_t length = 0, before = held;
+  jcrdt_open(&typed, "ada", 3, "", 0, &fault);
+  for (int n = 0; n < TYPED; n++) {
+    if (n == 0) strcpy(request, "[\"assign\",[0,\"l\"],[]]");
+    else sprintf(request, "[\"insert\",[0,\"l\",%d],\"x\"]", n - 1);
+    const char *line = ask(&typed, request, text) ? strchr(text, '\n') : NULL;
+    if (!line || strlen(line + 1) >= LONGEST) stop("typing", text);
+    length += (size_t)sprintf(lines + length, "%s", line + 1);
+  }
+  size_t by_typing = held - before;
+  if (jcrdt_open(&opened, "ada", 3, lines, length, &fault) != 0) stop("a typed text", "isn't opened");
+  size_t by_opening = held - before - by_typing;
+  jcrdt_close(&opened);
+  jcrdt_close(&typed);
+  if (held != before) stop("a typed text", "its memory isn't given back");
+  if (by_opening > by_typing + by_typing / 8) stop("a typed text", "opened it takes an eighth more memory");
+}
+
 int main(void) {
   size_t n = 0;
   while (session(n) || n == 0) n++;
@@ -167,6 +191,7 @@ int main(void) {
   jcrdt_close(&replica);
   after_fork();
   large_reading();
+  opened_text();
   printf("the library answers alike with each of %zu allocations refused, and misuse as its header says\n", n - 1);
   return 0;
 }

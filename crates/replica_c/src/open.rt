@@ -293,10 +293,22 @@ fn read_all(alloc: Global, text: &[u8], operations: &mut Vec<Operation>) -> Resu
     let mut rest = text;
     while !rest.is_empty() {
         let (line, later) = cut(rest);
-        operations.push(read_operation(alloc, line)?)?;
+        let op = beside_last(read_operation(alloc, line)?, operations.as_slice());
+        operations.push(op)?;
         rest = later;
     }
     Ok(())
+}
+
+// The operation, which shares with the last of these what both have. A log can't make its clone
+// share that.
+fn beside_last(op: Operation, operations: &[Operation]) -> Operation
+    ensures { result ≡ op }
+{
+    match operations.last() {
+        Some(last) => op.sharing(last, last),
+        None => op,
+    }
 }
 
 // The first line of a text that isn't empty, and the text after it.
