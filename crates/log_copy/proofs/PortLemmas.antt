@@ -1,5 +1,5 @@
 -- What `LogCopy` is to the port of the stored log.
-use Rattle.std.proofs.Common.{◌≡◌, ◌⊎◌, inl, inr, ◌↔◌, ◌+◌, ℕ, List, Bool, true, false, Option, Some, None, IfSome, option_map, unwrap_or, Result, Ok, Err, OnOk, refl, sym, ◌∙◌}
+use Rattle.std.proofs.Common.{◌≡◌, ◌⊎◌, inl, inr, ◌↔◌, ◌+◌, ℕ, List, Bool, true, false, Option, Some, None, Result, Ok, Err, OnOk, refl, sym, ◌∙◌}
 use Rattle.sqlite.specs.Tree.{Trees}
 use Rattle.sqlite.specs.Store.{Ghosts}
 use Rattle.sqlite.specs.Held.{state}
@@ -48,8 +48,3 @@ module _ {S : Type 0} (g : Ghosts S) where
 
 pub same_log : {S : Type 0} (a b : Kept S) → (a.epoch ≡ b.epoch) × (a.docs ≡ b.docs) × (a.is_alone ≡ b.is_alone) × (a.has_failed ≡ b.has_failed) → copied_log a ≡ copied_log b
 same_log a b same = rw (same.0, same.1, same.2, same.3) refl
-
--- what is there is what it is taken for
-pub if_some_is : {X Y : Type 0} (f : X → Y) (none : Y) (o : Option X) → IfSome o (λ x. f x ≡ unwrap_or (option_map f o) none)
-if_some_is f none (Some x) = refl
-if_some_is f none None = tt

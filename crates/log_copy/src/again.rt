@@ -15,10 +15,10 @@ use stored_log::{Fault, StoredFault, are_fronts, are_same, count};
 
 /// A batch that failed: entries of a document, behind so many.
 #[derive(Clone, Copy)]
-pub(crate) struct Failed<'a> {
-    pub(crate) doc: &'a str,
-    pub(crate) from: usize,
-    pub(crate) entries: &'a [Operation],
+pub struct Failed<'a> {
+    pub doc: &'a str,
+    pub from: usize,
+    pub entries: &'a [Operation],
 }
 
 // Whether what was found has the epoch and the tables of what was stored.
@@ -107,7 +107,7 @@ fn go_on<S: Alter + Drop>(
 /// A stored log over the connection, if it has what was stored before, perhaps without the batch that
 /// failed. That is added then. Otherwise the connection comes back: `Refused` where it has something
 /// else.
-pub(crate) fn resumed<S: Alter + Drop>(
+pub fn resumed<S: Alter + Drop>(
     alloc: Global,
     conn: Connection<S>,
     kept: &Parts,

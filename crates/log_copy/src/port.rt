@@ -27,7 +27,7 @@ pub fn stored_fault_of(code: ErrorCode) -> StoredFault {
 
 /// As `append`, where the file that the database is in is still at its path. Otherwise the log
 /// fails, and is as it was.
-pub(crate) fn append_there<S: Foldable + Drop>(
+pub fn append_there<S: Foldable + Drop>(
     copy: &mut LogCopy<S>,
     is_there: bool,
     doc: &str,

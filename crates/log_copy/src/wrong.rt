@@ -71,8 +71,8 @@ fn part_message(part: Part) -> &'static str {
     }
 }
 
-// What is wrong with the refused database.
-pub(crate) fn wrong_of<S: Alter>(alloc: Global, conn: &mut Connection<S>) -> Wrong {
+/// What is wrong with a database that was refused.
+pub fn wrong_of<S: Alter>(alloc: Global, conn: &mut Connection<S>) -> Wrong {
     match find_tables(conn.schema()) {
         Found::Both => wrong_rows(alloc, conn),
         Found::Neither | Found::Other => wrong_tables(conn.schema()),

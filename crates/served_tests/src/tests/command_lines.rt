@@ -12,7 +12,7 @@ use command_line::is_version;
 use commands::{parse_and_check, parse_and_serve, run_words};
 use line_feed::{Reader, Writer};
 use log::Log;
-use log_copy::SqliteFiles;
+use log_files::SqliteFiles;
 use run_core::NewDocuments;
 use share_ledger::{Blank, Marker};
 use std::alloc::{AllocError, Global};

@@ -1,5 +1,5 @@
 //! What is said of a database that is refused.
-use log_copy::adopted;
+use log_files::adopted;
 use sqlite::{Alter, Connection};
 use std::alloc::{AllocError, Global};
 

@@ -1,6 +1,6 @@
 //! What is at a path, as far as the file system says. No clause says anything of it.
 ghost use Rattle.std.specs.Prelude.{IfSome};
-ghost use Rattle.log_copy.specs.Refusal.{IsRefusal};
+ghost use Rattle.log_files.specs.Refusal.{IsRefusal};
 
 use crate::causes::Cause;
 use crate::write_ahead::has_page;

@@ -1,4 +1,4 @@
-use Rattle.log_copy.proofs.sqlite_log.fold_log.Goals as goal
+use Rattle.log_files.proofs.sqlite_log.fold_log.Goals as goal
 
 pub returns-in-Ok-clause-same : goal.returns-in-Ok-clause-same
 returns-in-Ok-clause-same c = rw c.new.ensures c.in-Ok.ensures.same

@@ -9,7 +9,7 @@ ghost use Rattle.sqlite.specs.State.{HasCleanDisk};
 ghost use Rattle.stored_rows.specs.Content.{Content, with_format};
 ghost use Rattle.stored_rows.specs.Steps.{IsOpenWith, IsOurs};
 ghost use Rattle.log_copy.specs.Opened.{IsTakenOver};
-ghost use Rattle.log_copy.specs.Refusal.{IsRefusal};
+ghost use Rattle.log_files.specs.Refusal.{IsRefusal};
 
 use crate::causes::Cause;
 use crate::paths::{
@@ -18,15 +18,14 @@ use crate::paths::{
 };
 use crate::place::Place;
 use crate::sqlite_log::SqliteLog;
-use crate::wrong::wrong_of;
-use crate::{Fault, LogCopy, stored_fault_of};
 use log::Log;
+use log_copy::{LogCopy, stored_fault_of, wrong_of};
 use server_notes::{Plain, note_log_unread, note_made, note_took_over};
 use sqlite::{Alter, Connection, Error, ErrorCode, File, FileStore};
 use std::alloc::Global;
 use std::rt::HostRuntime;
 use std::time::Clock;
-use stored_log::{OpenLog, StoredFault};
+use stored_log::{Fault, OpenLog, StoredFault};
 
 /// The stored log over a connection, or why there is none.
 pub fn adopted<S: Alter + Drop>(alloc: Global, conn: Connection<S>) -> Result<LogCopy<S>, Cause>

@@ -1,11 +1,10 @@
 //! Why a file can't be opened as a stored log.
 ghost use Rattle.std.specs.Prelude.{◌≡◌, ◌⊎◌, ◌↔◌};
-ghost use Rattle.log_copy.specs.Refusal.{IsRefusal};
+ghost use Rattle.log_files.specs.Refusal.{IsRefusal};
 
-use crate::Fault;
-use crate::wrong::Wrong;
+use log_copy::Wrong;
 use std::fmt;
-use stored_log::StoredFault;
+use stored_log::{Fault, StoredFault};
 
 /// Why a file can't be opened as a stored log.
 #[derive(Clone, Copy, Debug)]

@@ -7,11 +7,9 @@ ghost use Rattle.log_copy.specs.Again.{no_log, parts_log};
 ghost use Rattle.log_copy.specs.Kept.{IsStorable};
 ghost use Rattle.log_copy.specs.Port.{copied_log};
 
-use crate::again::{Failed, resumed};
-use crate::copy::Parts;
+use crate::files::SqliteFile;
 use crate::place::Place;
-use crate::port::{append_there, stored_fault_of};
-use crate::{LogCopy, SqliteFile};
+use log_copy::{Failed, LogCopy, Parts, append_there, resumed, stored_fault_of};
 use op_core::Operation;
 use op_log::OpLog;
 use sqlite::{Connection, Error, ErrorCode, File, Files, Options};

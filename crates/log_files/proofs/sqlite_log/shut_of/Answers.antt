@@ -1,8 +1,8 @@
 use Rattle.std.proofs.Common.{sym, ap, ◌∙◌}
 use Rattle.log_copy.specs.Again.{no_log, parts_log}
 use Rattle.log_copy.specs.Port.{copied_log}
-use Rattle.log_copy.proofs.PortLemmas.{if_some_is}
-use Rattle.log_copy.proofs.sqlite_log.shut_of.Goals as goal
+use Rattle.log_files.proofs.Held.{if_some_is}
+use Rattle.log_files.proofs.sqlite_log.shut_of.Goals as goal
 
 pub returns-in-Some-clause-some : goal.returns-in-Some-clause-some
 returns-in-Some-clause-some c =

@@ -1,4 +1,4 @@
-use Rattle.log_copy.proofs.sqlite_log.SqliteLogStoredLog.close.Goals as goal
+use Rattle.log_files.proofs.sqlite_log.SqliteLogStoredLog.close.Goals as goal
 
 pub returns-in-Some-clause-folded : goal.returns-in-Some-clause-folded
 returns-in-Some-clause-folded c = rw c.in-Some.is c.close_log.ensures.folded
