@@ -6,7 +6,7 @@ import { test } from "node:test";
 import { Refused, Replica } from "../index.mjs";
 import { engines } from "./engines.mjs";
 import { dice } from "./random.mjs";
-import { cpuOf, slowness } from "./support.mjs";
+import { cpuOf, slowness, tooLong } from "./support.mjs";
 
 /** @typedef {import("../wire.mjs").Cursor} Cursor */
 /** @typedef {import("../wire.mjs").Id} Id */
@@ -121,7 +121,7 @@ function aHistory(seed) {
 }
 
 test("who follows a list is told the same over each engine", { timeout: 900_000 }, () => {
-  for (let seed = 1; seed <= Number(process.env.SEEDS ?? 6); seed++) aHistory(seed);
+  for (let seed = 1; seed <= Number(process.env.SEEDS ?? (tooLong ? 1 : 6)); seed++) aHistory(seed);
 });
 
 /** What may be in a list beside scalars, and what only looks so.

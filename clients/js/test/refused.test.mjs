@@ -6,6 +6,7 @@ import { readFileSync, writeFileSync } from "node:fs";
 import { until } from "./chromium.mjs";
 import { opened, test } from "./providing.mjs";
 import { room, startHub, startServer } from "./serving.mjs";
+import { tooLong } from "./support.mjs";
 import { fileStore } from "../file_store.mjs";
 import { connected } from "../session.mjs";
 import { Refused } from "../wire.mjs";
@@ -140,4 +141,4 @@ test("a full document: each own change that the server lacks counts", async () =
   deepEqual([bob.replica.sum([0, "ada"]), bob.replica.sum([0, "bob"])], [41, 9]);
   await until("both are alike", () => ada.replica.sum([0, "bob"]) === 9);
   await client.quit();
-});
+}, { skip: tooLong });

@@ -6,7 +6,7 @@ import { test } from "node:test";
 import { Conflict, Counter, Refused, Replica, freshName, plain, print } from "../index.mjs";
 import { engines } from "./engines.mjs";
 import { RandomSession } from "./random_sessions.mjs";
-import { answered, cpuOf, slowness } from "./support.mjs";
+import { answered, cpuOf, slowness, tooLong } from "./support.mjs";
 
 const SECONDS = Number(process.env.SECONDS ?? 2); // of random sessions, for each engine
 const AT_ONCE = 8; // documents of one `run`
@@ -269,7 +269,7 @@ for (const [title, engine] of engines) {
 
 // ---- What it costs, in processor time.
 
-const SPEED = { timeout: 900_000 };
+const SPEED = { timeout: 900_000, skip: tooLong };
 
 /** A replica with so many characters at [0,"t"].
  *  @param {number} count */

@@ -22,6 +22,9 @@ process.on("exit", () => {
   rmSync(folder, { recursive: true, force: true });
 });
 
+/** Why a test of some ten seconds of a processor is left out by `tests/clients --short`, if it is. */
+export const tooLong = process.env.JCRDT_SHORT ? "it takes long, and ./test runs it" : false;
+
 const START_SECONDS = 240; // for the line that says where it listens
 let files = 0;
 

@@ -7,7 +7,7 @@ import { Provider, Unstored, memoryStore } from "../provider.mjs";
 import { bindText } from "../text_field.mjs";
 import { engines } from "./engines.mjs";
 import { Field } from "./field.mjs";
-import { cpuOf, slowness, until } from "./support.mjs";
+import { cpuOf, slowness, tooLong, until } from "./support.mjs";
 
 const MANY = 40_000;
 const KEYS = 20;
@@ -53,7 +53,7 @@ for (const [title, engine] of engines) {
     await pad.close();
   });
 
-  test(`${title}: a key in a field of ${MANY} characters`, { timeout: 900_000 }, async (context) => {
+  test(`${title}: a key in a field of ${MANY} characters`, { timeout: 900_000, skip: tooLong }, async (context) => {
     const { pad, field, end } = await bound("x".repeat(MANY));
     await until("all is shown", () => field.value.length === MANY);
     const took = await cpuOf(async () => {
