@@ -41,7 +41,8 @@ import { Remaking } from "./remaking.mjs";
 /** @typedef {object} Followed A server that says what it logs.
  *  @property {Answer} answer
  *  @property {Map<string, number>} theirs What it has, by its replies and by what it said.
- *  @property {boolean} isKnown Whether that is all it has; else the next exchange asks for it. */
+ *  @property {boolean} isKnown Whether that is all it has; else the next exchange asks for it.
+ *  @property {boolean} isMissed Whether it said something that wasn't taken, since it was asked last. */
 
 /** @typedef {object} Core What a replica gives to its exchange.
  *  @property {() => string} name
@@ -143,7 +144,8 @@ export class Exchange {
    *  @param {Answer} answer
    *  @param {Iterable<[string, number]>} [front] */
   follow(answer, front) {
-    this.#followed = { answer, theirs: new Map(front ?? []), isKnown: front !== undefined };
+    const theirs = new Map(front ?? []);
+    this.#followed = { answer, theirs, isKnown: front !== undefined, isMissed: false };
     if (front) this.#noteLoss(answer, this.#followed.theirs);
   }
 
@@ -185,6 +187,7 @@ export class Exchange {
     const isAll = this.#comparedBy(answer).isSame && this.#isAllSame(answer, followed, operations);
     // What isn't known to be the same isn't taken for what is here: the next exchange compares it.
     followed.isKnown &&= isAll;
+    followed.isMissed ||= !isAll;
     return isAll;
   }
 
@@ -288,11 +291,13 @@ export class Exchange {
   async #frontOf(answer, ask) {
     const followed = this.#followedBy(answer);
     if (followed?.isKnown) return followed.theirs;
+    if (followed) followed.isMissed = false;
     const [, front] = await Promise.all([ask("open"), ask("front")]);
     const now = checkedFront(front);
     if (!followed) return new Map(now);
     for (const [name, counter] of now) raise(followed.theirs, [counter, name]);
-    followed.isKnown = true;
+    // What it said meanwhile, and wasn't taken, may have come behind this front.
+    followed.isKnown = !followed.isMissed;
     return followed.theirs;
   }
 

@@ -68,8 +68,16 @@ export class OpenDocument {
     for (const it of replicas) this.replicas.add(it);
   }
 
-  /** Counts the operations of its log. */
+  /** Learns how large its log is. What is answered meanwhile may be counted twice, or not at all: that
+   *  would only renew it a little earlier or later. */
   async measure() {
+    const [size, replicas] = await Promise.all([this.askSize(), this.askReplicas()]);
+    if (size) this.noteSize(Math.max(this.operations, size.operations), replicas ?? []);
+    else await this.#measurePages();
+  }
+
+  /** By the operations themselves: servers before 1.2.0 don't tell how many there are. */
+  async #measurePages() {
     const { document } = this.#serving;
     const front = new Map();
     for (let page; page === undefined || page.length === MOST.page; ) {
@@ -81,19 +89,32 @@ export class OpenDocument {
       this.#counted += operations.length;
       page = operations;
     }
-    // What was answered meanwhile is counted: more than there are would only renew it earlier.
     this.noteSize(Math.max(this.operations, this.#counted), front.keys());
   }
 
   /** Asks which replicas its log has, while its server still runs. */
   async askReplicas() {
+    const reply = await this.#asked("front");
+    /** @type {[string, number][] | undefined} */
+    const front = reply?.[0];
+    return front?.map(([name]) => name);
+  }
+
+  /** Asks how large its log is; `undefined` where its server doesn't tell.
+   *  @returns {Promise<{ operations: number, replicas: number } | undefined>} */
+  async askSize() {
+    const reply = await this.#asked("size");
+    return reply && { operations: reply[0], replicas: reply[2] };
+  }
+
+  /** What its server replies behind the word of a request, within a while.
+   *  @param {string} word
+   *  @returns {Promise<any[] | undefined>} */
+  async #asked(word) {
     const { document } = this.#serving;
-    const asked = this.ask(document, JSON.stringify(["front", document]));
+    const asked = this.ask(document, JSON.stringify([word, document]));
     const reply = await Promise.race([asked, pauseBy(this.#sessions.clock, SIZE_MS)]);
-    const isFront = reply?.startsWith('["front",');
-    /** @type {[string, number][]} */
-    const front = isFront ? JSON.parse(reply ?? "")[1] : [];
-    return isFront ? front.map(([name]) => name) : undefined;
+    return reply?.startsWith(`["${word}",`) ? JSON.parse(reply).slice(1) : undefined;
   }
 
   /** Starts the server, and resolves once it listens. Throws the cause why it doesn't. */

@@ -837,10 +837,17 @@ export class Shelf {
     const record = await this.folder.record(document);
     const past = record.history.map((it) =>
       /** @type {[string, number, number]} */ ([it.generation, it.operations, it.replicas]));
+    const { operations = 0, replicas = 0 } = await this.#sizeOf(document);
+    return [...past, [record.generation, operations, replicas]];
+  }
+
+  /** How large a document is: as its server says, where that runs.
+   *  @param {string} document
+   *  @returns {Promise<{ operations?: number, replicas?: number }>} */
+  async #sizeOf(document) {
     const open = this.#documents.get(document);
-    const size = open ?? (await this.folder.sizeOf(document));
-    const replicas = open ? open.replicas.size : (await this.folder.sizeOf(document)).replicas ?? 0;
-    return [...past, [record.generation, size.operations ?? 0, replicas]];
+    if (!open) return this.folder.sizeOf(document);
+    return (await open.askSize()) ?? { operations: open.operations, replicas: open.replicas.size };
   }
 
   /** Which elements of a generation became which ones of the next: some of them.

@@ -226,6 +226,20 @@ suite("generations", { concurrency: true }, () => {
     client.end();
   });
 
+  test("the history tells as many operations as there are, also while a document is measured", async () => {
+    const hub = await startDataHub();
+    const client = await joinLines(hub.lines);
+    const names = Array.from({ length: 30 }, (_, at) => `h${at}`);
+    await Promise.all(names.map((it) => client.create(it)));
+    const told = await Promise.all(names.map(async (it) => {
+      const asked = [client.open(it), client.assign(it, [0, "k"], 1), client.assign(it, [0, "k"], 2)];
+      await Promise.all(asked);
+      return client.history(it);
+    }));
+    deepEqual(told, names.map(() => [["1", 2, 1]]));
+    client.end();
+  });
+
   test("a document whose hub was killed is counted again", async () => {
     const hub = await startDataHub(freshFolder(), "--renew-at", "200");
     const client = await joinLines(hub.lines, "d");

@@ -35,6 +35,7 @@ function fakeServer(lies = () => undefined) {
     if (word === "open") return '["opened",1]';
     if (word === "front") return print(["front", replica.front()]);
     if (word === "ops") return print(["ops", [...replica.operations(first)].slice(0, second)]);
+    if (word === "page") return print(["ops", [...replica.operations(first)]]); // as a hub
     if (word === "chains") return print(["chains", replica.chains(new Map(first), new Map(second))]);
     try {
       return print(replica.deliver(first));
@@ -563,6 +564,26 @@ for (const [title, engine] of engines) {
     me.assign([0, "later"], 1);
     await Promise.all([me.sync(server.answer), me.sync(other.answer)]);
     equal(print(other.replica.front()), print(server.replica.front()));
+  });
+
+  test(`${title}: what a server says while it is asked for its front isn't taken for known`, LIMIT, async () => {
+    let isSaid = false;
+    const me = replicaOf("me");
+    const server = fakeServer(([word], replica) => {
+      if (word !== "front" || isSaid) return undefined;
+      isSaid = true;
+      const before = print(["front", replica.front()]);
+      replica.assign([0, "k"], 1);
+      equal(me.logged(server.answer, [...replica.operations([])]), false); // nothing was compared by then
+      return before;
+    });
+    me.follow(server.answer);
+    await me.sync(server.answer);
+    await me.sync(server.answer); // as `logged` asked for
+    equal(me.count, 1);
+    server.requests.length = 0;
+    await me.sync(server.answer);
+    deepEqual(server.requests, []); // by now it is known
   });
 
   test(`${title}: servers that lie`, LIMIT, async () => {
