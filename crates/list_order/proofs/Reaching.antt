@@ -1,5 +1,5 @@
 -- How many are present up to a slot.
-use Rattle.std.proofs.Common.{◌≡◌, ◌≢◌, ◌<◌, ◌≤◌, ◌+◌, ℕ, suc, List, [], ◌∷◌, length, filter, Bool, true, false, ◌&&◌, nat_eq, nat_le, if◌then◌else◌, eqb-true, eq-eqb, Option, Some, None, refl, sym, ap, ◌∙◌, true≢false, arith}
+use Rattle.std.proofs.Common.{◌≡◌, ◌≢◌, ◌<◌, ◌≤◌, ◌+◌, ℕ, suc, List, [], ◌∷◌, length, Bool, true, false, ◌&&◌, nat_eq, nat_le, if◌then◌else◌, eqb-true, eq-eqb, Option, Some, None, refl, sym, ap, ◌∙◌, true≢false, arith}
 use Rattle.std.proofs.lemmas.Bool.{leb-true, leb-false}
 use Rattle.doc_api.specs.Words.{Id}
 use Rattle.crdt_rules.specs.Same.{id_eq}
@@ -7,7 +7,7 @@ use Rattle.list_order.specs.declared.slots.Slot.{Slot}
 use Rattle.list_order.specs.declared.slots.SlotNumber.{SlotNumber}
 use Rattle.list_order.specs.declared.marks.Mark.{Mark}
 use Rattle.list_order.specs.declared.marks.MarkBlock.{MarkBlock}
-use Rattle.list_order.specs.Entries.{ids_of, present_of, up_to}
+use Rattle.list_order.specs.Entries.{present_of, up_to}
 use Rattle.list_order.specs.Slots.{slot_at, slots_from, number_along, LinksEnd}
 use Rattle.list_order.specs.Marks.{mark_at, block_at, bit, count_to, count_where, is_marked, is_marked_in, from_block, entries_along, IsInBlockOrder, IsCounted}
 use Rattle.list_order.proofs.Scanning.{IsStep}
@@ -116,10 +116,12 @@ module _ (slots : List Slot) (marks : List Mark) (id : Id) where
       one : (p : Bool) → bit p + 0 ≡ length (present_of (((slot_at slots m).id, p) ∷ []))
       one true = refl
       one false = refl
+
       more : (p : Bool) → count_to n marks path ≡ length (present_of (up_to id (entries_along slots marks path)))
           → bit p + count_to n marks path ≡ length (present_of (((slot_at slots m).id, p) ∷ up_to id (entries_along slots marks path)))
       more true ih = omega (arith, ih)
       more false ih = omega (arith, ih)
+
       by : (here : Bool) → id_eq (slot_at slots m).id id ≡ here → ◌≡◌ {A = Option SlotNumber} (if here then Some m else number_along slots path id) (Some n)
           → (number_along slots path id ≡ Some n → count_to n marks path ≡ length (present_of (up_to id (entries_along slots marks path))))
           → (number_along slots path id ≡ Some n → id_eq (slot_at slots n).id id ≡ true)

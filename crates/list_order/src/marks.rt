@@ -276,16 +276,16 @@ impl Marks {
     {
         let mut left = self.at(n).block;
         let mut count = 0;
-        let mut at = chain.first;
+        let mut start = chain.first;
         for block in self.blocks.as_slice() {
             if left == 0 {
                 break;
             }
             left -= 1;
             count += block.present;
-            at = block.end;
+            start = block.end;
         }
-        count + self.count_from(chain, at, n)
+        count + self.count_from(chain, start, n)
     }
 }
 

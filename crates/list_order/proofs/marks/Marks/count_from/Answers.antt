@@ -1,4 +1,4 @@
-use Rattle.std.proofs.Common.{◌≡◌, ◌<◌, ◌≤◌, ◌+◌, ◌∙◌, [], sym, ap, subst, length, arith}
+use Rattle.std.proofs.Common.{◌≡◌, ◌<◌, ◌+◌, ◌∙◌, sym, ap, subst, length, arith}
 use Rattle.list_order.specs.Slots.{slot_at, slots_from, LinksEnd}
 use Rattle.list_order.specs.Marks.{mark_at, count_to, bit}
 use Rattle.list_order.proofs.Paths.{walk-None, length-path_from}
@@ -45,7 +45,7 @@ loop-at-preserved c =
     let s = step slots c.loop-at.at c.in-Some.m c.in-Some.is c.loop-at.invariant.walk in
     let one : c.bit-count.result ≡ bit (mark_at marks c.in-Some.m).is_present = c.bit-count.ensures ∙ ap (λ m. bit m.is_present) c.at-is_present.ensures in
     let grouped : count + bit (mark_at marks c.in-Some.m).is_present + count_to n marks (slots_from slots (slot_at slots c.in-Some.m).next)
-        ≡ count + (bit (mark_at marks c.in-Some.m).is_present + count_to n marks (slots_from slots (slot_at slots c.in-Some.m).next)) = omega arith in
+    ≡ count + (bit (mark_at marks c.in-Some.m).is_present + count_to n marks (slots_from slots (slot_at slots c.in-Some.m).next)) = omega arith in
     record {
       walk = subst (λ s. LinksEnd slots s.next) (sym c.slot_at.ensures) s.walk;
       same =

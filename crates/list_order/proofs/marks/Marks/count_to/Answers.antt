@@ -1,6 +1,6 @@
-use Rattle.std.proofs.Common.{◌≡◌, ◌<◌, ◌+◌, ◌-◌, ◌∙◌, sym, ap, subst, None, length, arith}
+use Rattle.std.proofs.Common.{◌<◌, sym, ap, subst, None, arith}
 use Rattle.list_order.specs.Slots.{slots_from}
-use Rattle.list_order.specs.Marks.{block_at, count_to, mark_at, IsCounted}
+use Rattle.list_order.specs.Marks.{mark_at, IsCounted}
 use Rattle.list_order.proofs.Paths.{length-path_from}
 use Rattle.list_order.proofs.Counting.{from-zero, block_step}
 use Rattle.list_order.proofs.Reaching.{count_to-few, count_to-block}
@@ -25,7 +25,7 @@ overflow_add-count c =
     let before : l.block-index < (mark_at marks c.args.n).block = omega (arith, l.invariant.behind, c.if-left-eq0.false) in
     omega (
       arith,
-      count_to-block marks c.args.n slots first blocks c.requires.fits.walk counted l.block-index l.at c.loop-block-test.true before l.invariant.rest,
+      count_to-block marks c.args.n slots first blocks c.requires.fits.walk counted l.block-index l.start c.loop-block-test.true before l.invariant.rest,
       l.invariant.same,
       count_to-few marks c.args.n (slots_from slots first),
       length-path_from slots first,
@@ -43,8 +43,8 @@ loop-block-preserved c =
     let l = c.loop-block in
     let k = l.block-index in
     let before : k < (mark_at marks n).block = omega (arith, l.invariant.behind, c.if-left-eq0.false) in
-    let s = block_step marks slots first blocks c.requires.fits.walk counted k l.at c.loop-block-test.true l.invariant.rest in
-    let counts = count_to-block marks n slots first blocks c.requires.fits.walk counted k l.at c.loop-block-test.true before l.invariant.rest in
+    let s = block_step marks slots first blocks c.requires.fits.walk counted k l.start c.loop-block-test.true l.invariant.rest in
+    let counts = count_to-block marks n slots first blocks c.requires.fits.walk counted k l.start c.loop-block-test.true before l.invariant.rest in
     record {
       walk = s.0;
       rest = s.1;
