@@ -17,7 +17,7 @@ use Rattle.crdt_rules.specs.Dependencies.{is_logged, missing}
 use Rattle.crdt_rules.specs.Facts.{Facts}
 use Rattle.crdt_rules.specs.Fits.{replicas}
 use Rattle.crdt_rules.specs.Pull.{front_of}
-use Rattle.doc_rules.specs.Index.{IsIndex}
+use Rattle.doc_rules.specs.Index.{IsIndexAt}
 use Rattle.doc_rules.specs.Views.{Values, AreValues, IsSum, ReadsPlace}
 use Rattle.doc_rules.specs.Replica.{Replica, replica_facts}
 use Rattle.doc_rules.specs.Resolve.{Resolves}
@@ -49,7 +49,7 @@ LooksHere f values look.Sum = ReadsHere (IsSum f) reply.Sum
 -- the reply to how many present elements come up to the one at a cursor
 abbrev pub IndexHere : Facts → Cursor → Reply → Type 0
 IndexHere f c answer =
-    (n : Result ℕ Refusal) × IsIndex f c n × (answer ≡ reply_with reply.Index n)
+    (n : Result ℕ Refusal) × IsIndexAt f c.path c.key n × (answer ≡ reply_with reply.Index n)
 
 -- a reading at the place where the steps lead, or the cause against them
 abbrev pub ReadsAt : Replica → Place → (Cursor → Reply → Type 0) → Reply → Type 0
