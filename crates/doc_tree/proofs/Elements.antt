@@ -8,8 +8,7 @@ use Rattle.op_core.specs.declared.cursor.Tagged.TheVariants.{Map as MapAt, List 
 use Rattle.op_core.specs.Shape.{key_of, is_list, may_follow}
 use Rattle.crdt_rules.specs.Same.{id_eq, key_eq}
 use Rattle.list_laws.proofs.Members.{Contains-nil, Contains-here, Contains-there, Contains-cases}
-use Rattle.list_order.specs.Entries.{ids_of, present_of}
-use Rattle.list_order.specs.Entries as entry
+use Rattle.list_order.specs.Entries.{ids_of, present_of, up_to}
 use Rattle.list_order.proofs.Entries.{present_of-holding}
 use Rattle.doc_nodes.specs.declared.node.NodeNumber.{NodeNumber}
 use Rattle.doc_nodes.specs.declared.node.Node.{Node}
@@ -17,7 +16,7 @@ use Rattle.doc_nodes.specs.Walk.{trail, trail_below, list_trail, list_trail_belo
 use Rattle.doc_nodes.specs.Nodes.{node_of, child_of, node_at, list_node_at}
 use Rattle.doc_tree.specs.Facts.{facts_of}
 use Rattle.doc_nodes.specs.ListPresence.{is_node_present, ListsShowPresence}
-use Rattle.doc_rules.specs.Index.{up_to}
+use Rattle.doc_rules.specs.Index.{ids_up_to}
 use Rattle.doc_nodes.proofs.Walks.{parts_of, walk-append}
 use Rattle.doc_tree.proofs.Reading.{ids_read}
 use Rattle.doc_tree.proofs.Below.{one_step}
@@ -71,36 +70,36 @@ elements_listed nodes p n e =
 
 -- ---- those up to an element
 
-ids_up_to : (i : Id) (entries : List (Id × Bool)) → ids_of (entry.up_to i entries) ≡ up_to i (ids_of entries)
-ids_up_to i [] = refl
-ids_up_to i (e ∷ entries) = go (id_eq e.0 i) (ids_up_to i entries)
+same_up_to : (i : Id) (entries : List (Id × Bool)) → ids_of (up_to i entries) ≡ ids_up_to i (ids_of entries)
+same_up_to i [] = refl
+same_up_to i (e ∷ entries) = go (id_eq e.0 i) (same_up_to i entries)
   where
-    go : (b : Bool) → ids_of (entry.up_to i entries) ≡ up_to i (ids_of entries)
-        → ids_of (if b then e ∷ [] else e ∷ entry.up_to i entries) ≡ (if b then e.0 ∷ [] else e.0 ∷ up_to i (ids_of entries))
+    go : (b : Bool) → ids_of (up_to i entries) ≡ ids_up_to i (ids_of entries)
+        → ids_of (if b then e ∷ [] else e ∷ up_to i entries) ≡ (if b then e.0 ∷ [] else e.0 ∷ ids_up_to i (ids_of entries))
     go true ih = refl
     go false ih = ap (λ l. e.0 ∷ l) ih
 
-within_all : (i : Id) (entries : List (Id × Bool)) (x : Id × Bool) → Contains (entry.up_to i entries) x → Contains entries x
+within_all : (i : Id) (entries : List (Id × Bool)) (x : Id × Bool) → Contains (up_to i entries) x → Contains entries x
 within_all i [] x c = c
 within_all i (e ∷ entries) x c = go (id_eq e.0 i) (within_all i entries x) c
   where
-    go : (b : Bool) → (Contains (entry.up_to i entries) x → Contains entries x) → Contains (if b then e ∷ [] else e ∷ entry.up_to i entries) x → Contains (e ∷ entries) x
+    go : (b : Bool) → (Contains (up_to i entries) x → Contains entries x) → Contains (if b then e ∷ [] else e ∷ up_to i entries) x → Contains (e ∷ entries) x
     go true ih c = elim (Contains-cases e [] c) [ inl is ↦ Contains-here entries is | inr none ↦ absurd (Contains-nil none) ]
     go false ih c =
-        elim (Contains-cases e (entry.up_to i entries) c) [ inl is ↦ Contains-here entries is | inr there ↦ Contains-there e entries (ih there) ]
+        elim (Contains-cases e (up_to i entries) c) [ inl is ↦ Contains-here entries is | inr there ↦ Contains-there e entries (ih there) ]
 
 -- the list of a node shows which of its elements up to one are present
 pub present_up_to : (nodes : List Node) → ListsShowPresence nodes → (n : NodeNumber) (i : Id)
-    → present_of (entry.up_to i (node_of nodes n).order.0)
-    ≡ filter (λ j. is_node_present nodes (child_of nodes n (Element j))) (up_to i (ids_of (node_of nodes n).order.0))
+    → present_of (up_to i (node_of nodes n).order.0)
+    ≡ filter (λ j. is_node_present nodes (child_of nodes n (Element j))) (ids_up_to i (ids_of (node_of nodes n).order.0))
 present_up_to nodes right n i =
-    present_of-holding (λ j. is_node_present nodes (child_of nodes n (Element j))) (entry.up_to i (node_of nodes n).order.0)
+    present_of-holding (λ j. is_node_present nodes (child_of nodes n (Element j))) (up_to i (node_of nodes n).order.0)
     (λ j is c. right.0 n j is (within_all i (node_of nodes n).order.0 (j, is) c))
-    ∙ ap (filter (λ j. is_node_present nodes (child_of nodes n (Element j)))) (ids_up_to i (node_of nodes n).order.0)
+    ∙ ap (filter (λ j. is_node_present nodes (child_of nodes n (Element j)))) (same_up_to i (node_of nodes n).order.0)
 
 -- and these are those of the list that leads to it
 pub elements_up_to : (nodes : List Node) (p : List Tagged) (n : NodeNumber) (i : Id) → list_node_at nodes p ≡ Some n
-    → filter (λ j. is_node_present nodes (child_of nodes n (Element j))) (up_to i (ids_of (node_of nodes n).order.0))
-    ≡ filter (λ j. is_node_present nodes (node_at nodes p (Element j))) (up_to i ((facts_of nodes).order p))
+    → filter (λ j. is_node_present nodes (child_of nodes n (Element j))) (ids_up_to i (ids_of (node_of nodes n).order.0))
+    ≡ filter (λ j. is_node_present nodes (node_at nodes p (Element j))) (ids_up_to i ((facts_of nodes).order p))
 elements_up_to nodes p n i e =
-    λ k. filter (λ j. is_node_present nodes (sym (element_child nodes p n j e) k)) (up_to i (ids_read nodes p n e k))
+    λ k. filter (λ j. is_node_present nodes (sym (element_child nodes p n j e) k)) (ids_up_to i (ids_read nodes p n e k))
