@@ -114,7 +114,8 @@ uint64_t jcrdt_open(jcrdt *replica, const char *name, size_t name_length, const 
    A refusal, such as ["no",9,"index-past-end"], changes nothing. The requests are assign, insert,
    delete, add, keys, values, items, conflicts, show, sum, ops, chains, front, held, deliver, forget,
    and ["cursor",PLACE], which replies ["cursor",[PATH,KEY]]. A place may start with such a cursor in
-   place of 0, as in [[PATH,KEY],2]: so a caret stays at its element.
+   place of 0, as in [[PATH,KEY],2]: so a caret stays at its element. ["index",PLACE] replies
+   ["index",N]: how many present elements come up to that one. So a present element's index is N.
 
    0 means: the handle owns no replica; or memory lacked for the text, though room for it was made
    beforehand. The request was answered then all the same. */

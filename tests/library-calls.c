@@ -43,7 +43,8 @@ static const char *requests[] = {
   "[\"insert\",[0,\"l\",1],{}]", "[\"assign\",[0,\"l\",2,\"a key that has no room in place of its own\"],9]",
   "[\"deliver\",[\"op\",[1,\"bob\"],[],[[[\"m\",0]],\"b\"],[\"add\",5]]]",
   "[\"deliver\",[\"op\",[9,\"eve\"],[[\"eve\",8]],[[[\"m\",0]],\"b\"],[\"add\",5]]]",
-  "[\"show\",[0]]", "[\"cursor\",[0,\"l\",1]]", "[\"items\",[0,\"l\"]]", "[\"conflicts\",[0,\"b\"]]", "[\"sum\",[0,\"b\"]]",
+  "[\"show\",[0]]", "[\"cursor\",[0,\"l\",1]]", "[\"index\",[0,\"l\",1]]", "[\"items\",[0,\"l\"]]", "[\"conflicts\",[0,\"b\"]]",
+  "[\"sum\",[0,\"b\"]]",
   "[\"ops\",[],64]", "[\"front\"]", "[\"held\"]", "[\"forget\",[9,\"eve\"]]", "[\"delete\",[0,\"l\",1]]", "[\"keys\",[0]]",
 };
 enum { REQUESTS = sizeof requests / sizeof *requests, ROOM = 1 << 16 };
@@ -109,6 +110,27 @@ static void after_fork(void) {
   if (waitpid(child, &status, 0) != child || status != 0) stop("a child that was forked", "it doesn't answer by itself");
   ask(&replica, request, text);
   if (strncmp(text, made, strlen(made)) != 0) stop("a child that was forked", "its parent's replica has changed");
+  jcrdt_close(&replica);
+}
+
+/* How many present elements come up to one: of three the second is deleted. Then what has no index. */
+static void indices(void) {
+  static const char *const asked[][2] = {
+    {"[\"assign\",[0,\"l\"],[]]", NULL}, {"[\"insert\",[0,\"l\",0],\"a\"]", NULL},
+    {"[\"insert\",[0,\"l\",1],\"b\"]", NULL}, {"[\"insert\",[0,\"l\",2],\"c\"]", NULL}, {"[\"delete\",[0,\"l\",2]]", NULL},
+#define AT(key) "[\"index\",[[[[\"m\",0],[\"l\",\"l\"]]," key "]]]"
+    {AT("[2,\"ada\"]"), "[\"index\",1]\n"}, {AT("[3,\"ada\"]"), "[\"index\",1]\n"}, {AT("[4,\"ada\"]"), "[\"index\",2]\n"},
+    {AT("1"), "[\"index\",0]\n"}, {"[\"index\",[0,\"l\",0]]", "[\"index\",0]\n"}, {"[\"index\",[0,\"l\",2]]", "[\"index\",2]\n"},
+    {"[\"index\",[0,\"l\"]]", "[\"no\",11,\"not-in-list\"]\n"}, {"[\"index\",[0]]", "[\"no\",11,\"not-in-list\"]\n"},
+    {AT("[9,\"ada\"]"), "[\"no\",7,\"bad-cursor\"]\n"}, {"[\"index\",[0,\"l\",3]]", "[\"no\",9,\"index-past-end\"]\n"},
+    {"[\"index\",[\"l\"]]", "[\"no\",2,\"bad-request\"]\n"}, {"[\"index\"]", "[\"no\",2,\"bad-request\"]\n"},
+  };
+  jcrdt replica = JCRDT_CLOSED;
+  jcrdt_fault fault;
+  jcrdt_open(&replica, "ada", 3, "", 0, &fault);
+  for (size_t at = 0; at < sizeof asked / sizeof *asked; at++) {
+    if (!ask(&replica, asked[at][0], text) || (asked[at][1] && strcmp(text, asked[at][1]) != 0)) stop(asked[at][0], text);
+  }
   jcrdt_close(&replica);
 }
 
@@ -190,6 +212,7 @@ int main(void) {
   jcrdt_close(&replica);
   jcrdt_close(&replica);
   after_fork();
+  indices();
   large_reading();
   opened_text();
   printf("the library answers alike with each of %zu allocations refused, and misuse as its header says\n", n - 1);

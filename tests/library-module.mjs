@@ -11,7 +11,7 @@ const REQUESTS = [
   ["insert", [0, "l", 1], {}], ["assign", [0, "l", 2, "a key that has no room in place of its own"], 9],
   ["deliver", ["op", [1, "bob"], [], [[["m", 0]], "b"], ["add", 5]]],
   ["deliver", ["op", [9, "eve"], [["eve", 8]], [[["m", 0]], "b"], ["add", 5]]],
-  ["show", [0]], ["cursor", [0, "l", 1]], ["items", [0, "l"]], ["conflicts", [0, "b"]], ["sum", [0, "b"]],
+  ["show", [0]], ["cursor", [0, "l", 1]], ["index", [0, "l", 1]], ["items", [0, "l"]], ["conflicts", [0, "b"]], ["sum", [0, "b"]],
   ["ops", [], 64], ["chains", [], [["ada", 9], ["bob", 1]]], ["front"], ["held"], ["forget", [9, "eve"]], ["delete", [0, "l", 1]], ["keys", [0]],
 ];
 const FIRST = '["op",[1,"p"],[],[[["m",0]],"a"],["delete"]]';

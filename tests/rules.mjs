@@ -253,6 +253,12 @@ class List {
     return undefined;
   }
 
+  /** How many present elements come up to one of them, itself included.
+   *  @param {Node} node */
+  countTo(node) {
+    const nodes = this.blocks.flatMap((block) => block.nodes);
+    return nodes.slice(0, nodes.indexOf(node) + 1).filter((it) => it.isCounted).length;
+  }
 }
 
 /** @param {Node} node
@@ -331,6 +337,7 @@ class Rules {
         [id, this.#missing(front ?? NONE)])] };
       case "forget": return this.#forget(first);
       case "cursor": return { reply: [word, this.place(first)] };
+      case "index": return { reply: [word, this.#index(first)] };
       default: return { reply: [word, this.#read(word, first)] };
     }
   }
@@ -395,6 +402,14 @@ class Rules {
   place(cursor) {
     const { path, key } = this.#find(cursor);
     return [path, key];
+  }
+
+  /** How many present elements come up to the one at a cursor.
+   *  @param {any[]} cursor */
+  #index(cursor) {
+    const { path, key, node } = this.#find(cursor);
+    if (path[path.length - 1]?.[0] !== "l") throw new Refused(11);
+    return key === 1 ? 0 : /** @type {List} */ (node.parent?.list).countTo(node);
   }
 
   // ---- Changes of one's own

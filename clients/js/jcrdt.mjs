@@ -20,8 +20,9 @@ import { isSimple, parse, print } from "./json.mjs";
 
 /** @typedef {object} Engine Answers requests as a server does, but for the document's name, which it
  *    doesn't have: those of REPLICA_REQUESTS in protocol.mjs. To ["cursor",CURSOR] it replies
- *    ["cursor",[PATH,KEY]], which says where it leads. A cursor may start with a cursor in its
- *    written form, [PATH,KEY], in place of 0.
+ *    ["cursor",[PATH,KEY]], which says where it leads, and to ["index",CURSOR] ["index",N]: how many
+ *    present elements come up to that one, itself included where it is present. A cursor may start
+ *    with a cursor in its written form, [PATH,KEY], in place of 0.
  *  @property {(request: any[]) => Answer} ask Throws Broken where the engine stopped within: then
  *    each later call does.
  *  @property {(request: any[]) => string | undefined} [text] The line of the reply to a request that

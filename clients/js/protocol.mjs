@@ -81,6 +81,7 @@ export const REPLICA_REQUESTS = new Map([
   ["held", form("state", [], ["waiting"])],
   ["forget", form("change", ["ID"], ["forgotten"])],
   ["cursor", form("look", ["CUR"], ["cursor"])],
+  ["index", form("look", ["CUR"], ["index"])],
 ]);
 
 /** The first words of the hub's lines that answer no request.

@@ -27,8 +27,9 @@ export type Answer = {
 /**
  * Answers requests as a server does, but for the document's name, which it
  *   doesn't have: those of REPLICA_REQUESTS in protocol.mjs. To ["cursor",CURSOR] it replies
- *   ["cursor",[PATH,KEY]], which says where it leads. A cursor may start with a cursor in its
- *   written form, [PATH,KEY], in place of 0.
+ *   ["cursor",[PATH,KEY]], which says where it leads, and to ["index",CURSOR] ["index",N]: how many
+ *   present elements come up to that one, itself included where it is present. A cursor may start
+ *   with a cursor in its written form, [PATH,KEY], in place of 0.
  */
 export type Engine = {
     /**

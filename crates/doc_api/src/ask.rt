@@ -59,6 +59,8 @@ pub struct Counts {
 pub enum Query {
     /// Where the steps lead.
     Resolve(Place),
+    /// How many present elements come up to the one at the place.
+    Index(Place),
     /// What is at the place.
     Look(Look, Place),
     /// The first so many of the logged operations that the front does not cover.

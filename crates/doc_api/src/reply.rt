@@ -61,6 +61,9 @@ pub enum Reply {
     Forgotten,
     /// Where the steps led.
     Resolved(Cursor),
+    /// How many present elements come up to the one at the place, itself included where it is
+    /// present.
+    Index(u64),
     /// The names of the present members of the map, as JSON text.
     Keys(CompactText),
     /// The scalars of the register.
@@ -112,6 +115,7 @@ impl Drop for Reply {
             Reply::Held(_) => {}
             Reply::Forgotten => {}
             Reply::Resolved(_) => {}
+            Reply::Index(_) => {}
             Reply::Keys(_) => {}
             Reply::Values(_) => {}
             Reply::Items(_) => {}

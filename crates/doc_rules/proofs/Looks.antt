@@ -1,5 +1,5 @@
 -- A look at a tree that has the facts and the roles of a log is a look at what the log makes.
-use Rattle.std.proofs.Common.{◌≡◌, ℕ, List, Option, Result, Ok, Err, sym, ap, subst, ◌∙◌}
+use Rattle.std.proofs.Common.{◌≡◌, List, Option, Result, Ok, Err, sym, ap, subst, ◌∙◌}
 use Rattle.std.specs.Prelude.{MatchResult, option_and_then}
 use Rattle.doc_api.specs.Words.{Id, Refusal, Op, Cursor, Key, Tagged}
 use Rattle.doc_api.specs.declared.ask.Counts.{Counts}

@@ -1,5 +1,5 @@
 -- What is read of a document is one answer: no reading has two.
-use Rattle.std.proofs.Common.{◌≡◌, ℕ, ℤ, List, [], ◌∷◌, map, Option, Some, Result, Ok, Err, refl, sym, ap, subst, ◌∙◌, Ordering}
+use Rattle.std.proofs.Common.{◌≡◌, ℕ, ℤ, List, [], ◌∷◌, map, length, Option, Some, Result, Ok, Err, refl, sym, ap, subst, ◌∙◌, Ordering}
 use Rattle.std.proofs.lemmas.Cmp.{nat_list_cmp_total}
 use Rattle.std.proofs.lemmas.Map.Lookups.{exact_bytes}
 use Rattle.std.proofs.lemmas.Bool.{both_ways}
@@ -7,7 +7,7 @@ use Rattle.std.specs.Prelude.{MatchResult}
 use Rattle.serde_json.specs.Data.{Data, string}
 use Rattle.serde_json.specs.Written.{compact_text}
 use Rattle.doc_api.specs.Words.{Id, name_cmp, Refusal, Scalar, Val, Cursor, Key, Tagged}
-use Rattle.op_core.specs.declared.cursor.Key.TheVariants.{Text, Element}
+use Rattle.op_core.specs.declared.cursor.Key.TheVariants.{Text, Element, Head}
 use Rattle.list_laws.proofs.IdOrder.{IsIdOrder}
 use Rattle.list_laws.proofs.Rising.{rising_same}
 use Rattle.crdt_rules.specs.Facts.{Facts}
@@ -29,7 +29,8 @@ use Rattle.doc_api.specs.declared.reply.Reply.{Reply}
 use Rattle.doc_api.specs.declared.reply.Reply.TheVariants as reply
 use Rattle.doc_rules.specs.Resolve.{may_go_on, at_index, Goes, Leads, checked_start, Resolves}
 use Rattle.doc_rules.specs.Replica.{Replica, replica_facts}
-use Rattle.doc_rules.specs.Answers.{reply_with, ReadsHere, LooksHere, ReadsAt, Reads}
+use Rattle.doc_rules.specs.Index.{IsIndexAt}
+use Rattle.doc_rules.specs.Answers.{reply_with, ReadsHere, LooksHere, IndexHere, ReadsAt, Reads}
 use Rattle.doc_rules.specs.Role.{value_put_at}
 use Rattle.doc_rules.specs.Views.{Values, IsPresent, into_map, into_list, AreKeys, AreEntries, AreValues, HaveValues, AreItems, AreTerms, total, IsSum, AreConflicts, ReadsPlace}
 use Rattle.doc_rules.specs.Shown.{Shown, MapShown, ListShown, Fields, Elements, shown, no_map, a_map, no_list, a_list, no_fields, field, no_elements, element, names, HasList, total_shown, ShowsCount, Shows, ShowsMap, ShowsList, ShowsFields, ShowsElements, shown_data, ShowsText}
@@ -199,6 +200,15 @@ one_look f values look.Conflicts = one_here (ConflictsText f values) reply.Confl
 one_look f values look.Show = one_here (ShowsText f values) reply.Show (one_text f values)
 one_look f values look.Sum = one_here (IsSum f) reply.Sum (one_sum f values)
 
+-- how many present elements come up to one
+one_index : (f : Facts) (p : List Tagged) (k : Key) (x y : Result ℕ Refusal) → IsIndexAt f p k x → IsIndexAt f p k y → x ≡ y
+one_index f p (Element i) x y a b = a.2 ∙ ap (λ ids. Ok (length ids)) (those_same a.1 b.1) ∙ sym b.2
+one_index f p Head x y a b = a ∙ sym b
+one_index f p k x y a b = a ∙ sym b
+
+one_index_here : (f : Facts) (c : Cursor) (x y : Reply) → IndexHere f c x → IndexHere f c y → x ≡ y
+one_index_here f c x y a b = a.2 ∙ ap (reply_with reply.Index) (one_index f c.path c.key a.0 b.0 a.1 b.1) ∙ sym b.2
+
 one_at : (r : Replica) (place : Place) (reads : Cursor → Reply → Type 0) → ((c : Cursor) (x y : Reply) → reads c x → reads c y → x ≡ y)
     → (x y : Reply) → ReadsAt r place reads x → ReadsAt r place reads y → x ≡ y
 one_at r place reads one x y a b =
@@ -211,6 +221,7 @@ one_at r place reads one x y a b =
 
 pub one_answer : (r : Replica) (counts : Counts) (q : Query) (x y : Reply) → Reads r counts q x → Reads r counts q y → x ≡ y
 one_answer r counts (query.Resolve place) x y = one_at r place (λ c a. a ≡ reply.Resolved c) (λ c x y a b. a ∙ sym b) x y
+one_answer r counts (query.Index place) x y = one_at r place (IndexHere (replica_facts r)) (one_index_here (replica_facts r)) x y
 one_answer r counts (query.Look l place) x y =
     one_at r place (LooksHere (replica_facts r) (value_put_at r.log) l) (one_look (replica_facts r) (value_put_at r.log) l) x y
 one_answer r counts (query.Operations front limit) x y = λ a b. a ∙ sym b

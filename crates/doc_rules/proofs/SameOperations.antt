@@ -1,5 +1,5 @@
 -- Two good logs of the same operations are read alike.
-use Rattle.std.proofs.Common.{◌≡◌, ◌⊎◌, inl, inr, ℕ, List, [], ◌∷◌, Bool, true, false, Option, Some, None, Result, Ok, Err, if◌then◌else◌, Contains, refl, sym, ap, subst, ◌∙◌}
+use Rattle.std.proofs.Common.{◌≡◌, ◌⊎◌, inl, inr, List, [], ◌∷◌, Bool, true, false, Option, Some, None, Result, Ok, Err, if◌then◌else◌, Contains, refl, sym, ap, subst, ◌∙◌}
 use Rattle.std.specs.List.{list_any}
 use Rattle.std.specs.Prelude.{MatchResult}
 use Rattle.std.proofs.lemmas.Bool.{false_from_ne_true, both_ways}
@@ -21,7 +21,7 @@ use Rattle.crdt_rules.proofs.LastCounter.{last_counter-same}
 use Rattle.crdt_rules.proofs.Readings.{here_from}
 use Rattle.crdt_rules.proofs.SameSet.{HasOneEach, good_one_each, same_set_same_facts}
 use Rattle.crdt_rules.proofs.Tests.{any_at, any_from}
-use Rattle.doc_rules.specs.Answers.{LooksHere, Reads, IsOfOperations}
+use Rattle.doc_rules.specs.Answers.{IndexHere, LooksHere, Reads, IsOfOperations}
 use Rattle.doc_rules.specs.Replica.{Replica, replica_facts}
 use Rattle.doc_rules.specs.Resolve.{Resolves}
 use Rattle.doc_rules.specs.Role.{value_put_at, role_put, logged_role, roles_of}
@@ -99,6 +99,11 @@ module _ (r s : Replica) (good : IsGood r.log) (other_good : IsGood s.log) (same
 
   pub answers_same : (mine theirs : Counts) (q : Query) (answer : Reply) → IsOfOperations q → Reads r mine q answer → Reads s theirs q answer
   answers_same mine theirs (query.Resolve place) answer of h = (h.0, subst (λ f. Resolves f place.start place.steps h.0) same_facts h.1, h.2)
+  answers_same mine theirs (query.Index place) answer of h = (
+    h.0,
+    subst (λ f. Resolves f place.start place.steps h.0) same_facts h.1,
+    subst (λ f. MatchResult h.0 (λ c. IndexHere f c answer) (λ e. answer ≡ reply.Refused e)) same_facts h.2,
+  )
   answers_same mine theirs (query.Look l place) answer of h =
       (h.0, subst (λ f. Resolves f place.start place.steps h.0) same_facts h.1, by h.0 h.2)
     where

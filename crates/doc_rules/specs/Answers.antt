@@ -17,6 +17,7 @@ use Rattle.crdt_rules.specs.Dependencies.{is_logged, missing}
 use Rattle.crdt_rules.specs.Facts.{Facts}
 use Rattle.crdt_rules.specs.Fits.{replicas}
 use Rattle.crdt_rules.specs.Pull.{front_of}
+use Rattle.doc_rules.specs.Index.{IsIndexAt}
 use Rattle.doc_rules.specs.Views.{Values, AreValues, IsSum, ReadsPlace}
 use Rattle.doc_rules.specs.Replica.{Replica, replica_facts}
 use Rattle.doc_rules.specs.Resolve.{Resolves}
@@ -45,6 +46,11 @@ LooksHere f values look.Conflicts = ReadsHere (ConflictsText f values) reply.Con
 LooksHere f values look.Show = ReadsHere (ShowsText f values) reply.Show
 LooksHere f values look.Sum = ReadsHere (IsSum f) reply.Sum
 
+-- the reply to how many present elements come up to the one at a cursor
+abbrev pub IndexHere : Facts → Cursor → Reply → Type 0
+IndexHere f c answer =
+    (n : Result ℕ Refusal) × IsIndexAt f c.path c.key n × (answer ≡ reply_with reply.Index n)
+
 -- a reading at the place where the steps lead, or the cause against them
 abbrev pub ReadsAt : Replica → Place → (Cursor → Reply → Type 0) → Reply → Type 0
 ReadsAt r place reads answer =
@@ -66,6 +72,7 @@ state_reply r counts state.Size =
 
 abbrev pub Reads : Replica → Counts → Query → Reply → Type 0
 Reads r counts (query.Resolve place) answer = ReadsAt r place (λ c a. a ≡ reply.Resolved c) answer
+Reads r counts (query.Index place) answer = ReadsAt r place (IndexHere (replica_facts r)) answer
 Reads r counts (query.Look look place) answer =
     ReadsAt r place (LooksHere (replica_facts r) (value_put_at r.log) look) answer
 Reads r counts (query.Operations front limit) answer =
@@ -86,10 +93,11 @@ GoesByCounts _ = ⊥
 abbrev pub MayAnswer : Replica → Counts → Query → Reply → Type 0
 MayAnswer r counts q answer = Reads r counts q answer ⊎ (answer ≡ reply.Refused NoMemory)
 
--- the operations alone answer it, whatever their order: where steps lead, a
--- look at a place, and the front
+-- the operations alone answer it, whatever their order: where steps lead, an
+-- index, a look at a place, and the front
 abbrev pub IsOfOperations : Query → Type 0
 IsOfOperations (query.Resolve place) = Unit {0}
+IsOfOperations (query.Index place) = Unit {0}
 IsOfOperations (query.Look look place) = Unit {0}
 IsOfOperations (query.State state.Front) = Unit {0}
 IsOfOperations _ = ⊥

@@ -1,6 +1,7 @@
 pub mod Sorted
 pub mod Role
 pub mod Views
+pub mod Index
 pub mod Shown
 pub mod Encoded
 pub mod Chains

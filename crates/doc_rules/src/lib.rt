@@ -136,8 +136,8 @@ pub fn refusals_change_nothing()
 {}
 
 /// Two replicas whose good logs hold the same operations, in whatever orders, answer alike what the
-/// operations answer: where steps lead, each look at a place, and the front. The ids that make a
-/// place present have the same roles there, and the fronts are one.
+/// operations answer: where steps lead, an index, each look at a place, and the front. The ids that
+/// make a place present have the same roles there, and the fronts are one.
 pub fn same_operations_same_answers()
     ensures answers { (r s : Replica) (ours theirs : Counts) (q : Query) (answer : Reply) → IsGood r.log
         → IsGood s.log

@@ -1,13 +1,14 @@
 -- The elements of a list, as children of the list's node.
-use Rattle.std.proofs.Common.{◌≡◌, List, [], ◌∷◌, ◌++◌, filter, Bool, true, false, if◌then◌else◌, Option, Some, None, refl, sym, ap, ◌∙◌}
+use Rattle.std.proofs.Common.{◌≡◌, inl, inr, List, [], ◌∷◌, ◌++◌, filter, Contains, Bool, true, false, if◌then◌else◌, Option, Some, None, refl, sym, ap, ◌∙◌}
 use Rattle.std.specs.Prelude.{option_and_then}
 use Rattle.std.specs.Option.{option_map}
 use Rattle.doc_api.specs.Words.{Id, Key, Tagged}
 use Rattle.op_core.specs.declared.cursor.Key.TheVariants.{Doc, Element}
 use Rattle.op_core.specs.declared.cursor.Tagged.TheVariants.{Map as MapAt, List as ListAt}
 use Rattle.op_core.specs.Shape.{key_of, is_list, may_follow}
-use Rattle.crdt_rules.specs.Same.{key_eq}
-use Rattle.list_order.specs.Entries.{ids_of, present_of}
+use Rattle.crdt_rules.specs.Same.{id_eq, key_eq}
+use Rattle.list_laws.proofs.Members.{Contains-nil, Contains-here, Contains-there, Contains-cases}
+use Rattle.list_order.specs.Entries.{ids_of, present_of, up_to}
 use Rattle.list_order.proofs.Entries.{present_of-holding}
 use Rattle.doc_nodes.specs.declared.node.NodeNumber.{NodeNumber}
 use Rattle.doc_nodes.specs.declared.node.Node.{Node}
@@ -15,6 +16,7 @@ use Rattle.doc_nodes.specs.Walk.{trail, trail_below, list_trail, list_trail_belo
 use Rattle.doc_nodes.specs.Nodes.{node_of, child_of, node_at, list_node_at}
 use Rattle.doc_tree.specs.Facts.{facts_of}
 use Rattle.doc_nodes.specs.ListPresence.{is_node_present, ListsShowPresence}
+use Rattle.doc_rules.specs.Index.{ids_up_to}
 use Rattle.doc_nodes.proofs.Walks.{parts_of, walk-append}
 use Rattle.doc_tree.proofs.Reading.{ids_read}
 use Rattle.doc_tree.proofs.Below.{one_step}
@@ -65,3 +67,39 @@ pub elements_listed : (nodes : List Node) (p : List Tagged) (n : NodeNumber) →
     ≡ filter (λ i. is_node_present nodes (node_at nodes p (Element i))) ((facts_of nodes).order p)
 elements_listed nodes p n e =
     λ k. filter (λ i. is_node_present nodes (sym (element_child nodes p n i e) k)) (ids_read nodes p n e k)
+
+-- ---- those up to an element
+
+same_up_to : (i : Id) (entries : List (Id × Bool)) → ids_of (up_to i entries) ≡ ids_up_to i (ids_of entries)
+same_up_to i [] = refl
+same_up_to i (e ∷ entries) = go (id_eq e.0 i) (same_up_to i entries)
+  where
+    go : (b : Bool) → ids_of (up_to i entries) ≡ ids_up_to i (ids_of entries)
+        → ids_of (if b then e ∷ [] else e ∷ up_to i entries) ≡ (if b then e.0 ∷ [] else e.0 ∷ ids_up_to i (ids_of entries))
+    go true ih = refl
+    go false ih = ap (λ l. e.0 ∷ l) ih
+
+within_all : (i : Id) (entries : List (Id × Bool)) (x : Id × Bool) → Contains (up_to i entries) x → Contains entries x
+within_all i [] x c = c
+within_all i (e ∷ entries) x c = go (id_eq e.0 i) (within_all i entries x) c
+  where
+    go : (b : Bool) → (Contains (up_to i entries) x → Contains entries x) → Contains (if b then e ∷ [] else e ∷ up_to i entries) x → Contains (e ∷ entries) x
+    go true ih c = elim (Contains-cases e [] c) [ inl is ↦ Contains-here entries is | inr none ↦ absurd (Contains-nil none) ]
+    go false ih c =
+        elim (Contains-cases e (up_to i entries) c) [ inl is ↦ Contains-here entries is | inr there ↦ Contains-there e entries (ih there) ]
+
+-- the list of a node shows which of its elements up to one are present
+pub present_up_to : (nodes : List Node) → ListsShowPresence nodes → (n : NodeNumber) (i : Id)
+    → present_of (up_to i (node_of nodes n).order.0)
+    ≡ filter (λ j. is_node_present nodes (child_of nodes n (Element j))) (ids_up_to i (ids_of (node_of nodes n).order.0))
+present_up_to nodes right n i =
+    present_of-holding (λ j. is_node_present nodes (child_of nodes n (Element j))) (up_to i (node_of nodes n).order.0)
+    (λ j is c. right.0 n j is (within_all i (node_of nodes n).order.0 (j, is) c))
+    ∙ ap (filter (λ j. is_node_present nodes (child_of nodes n (Element j)))) (same_up_to i (node_of nodes n).order.0)
+
+-- and these are those of the list that leads to it
+pub elements_up_to : (nodes : List Node) (p : List Tagged) (n : NodeNumber) (i : Id) → list_node_at nodes p ≡ Some n
+    → filter (λ j. is_node_present nodes (child_of nodes n (Element j))) (ids_up_to i (ids_of (node_of nodes n).order.0))
+    ≡ filter (λ j. is_node_present nodes (node_at nodes p (Element j))) (ids_up_to i ((facts_of nodes).order p))
+elements_up_to nodes p n i e =
+    λ k. filter (λ j. is_node_present nodes (sym (element_child nodes p n j e) k)) (ids_up_to i (ids_read nodes p n e k))

@@ -10,7 +10,7 @@ use Rattle.json_scalar.specs.declared.refusal.Refusal.TheVariants as refusal
 use Rattle.op_core.specs.Wire.{list_data, id_data, front_data, cursor_data}
 use Rattle.doc_api.specs.declared.reply.Reply.{Reply}
 use Rattle.doc_api.specs.declared.reply.Reply.TheVariants.{Applied, Known, Held, Forgotten}
-use Rattle.doc_api.specs.declared.reply.Reply.TheVariants.{Resolved, Keys, Values}
+use Rattle.doc_api.specs.declared.reply.Reply.TheVariants.{Resolved, Index, Keys, Values}
 use Rattle.doc_api.specs.declared.reply.Reply.TheVariants.{Items, Conflicts, Show, Sum, Operations}
 use Rattle.doc_api.specs.declared.reply.Reply.TheVariants.{Chains}
 use Rattle.doc_api.specs.declared.reply.Reply.TheVariants.{Front, Waiting}
@@ -49,6 +49,7 @@ reply_data Known = worded (codes "known") []
 reply_data (Held missing) = worded (codes "held") (ids_data missing ∷ [])
 reply_data Forgotten = worded (codes "forgotten") []
 reply_data (Resolved cursor) = worded (codes "cursor") (cursor_data cursor ∷ [])
+reply_data (Index n) = worded (codes "index") (count_data n ∷ [])
 reply_data (Keys text) = null
 reply_data (Values scalars) = worded (codes "values") (scalars_data scalars ∷ [])
 reply_data (Items text) = null

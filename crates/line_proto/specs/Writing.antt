@@ -4,7 +4,7 @@ use Rattle.std.specs.Io.KnownBytes.{Appends}
 use Rattle.doc_api.specs.declared.reply.Reply.{Reply}
 use Rattle.doc_api.specs.declared.reply.Reply.TheVariants.{Applied, Known, Held, Waiting, Forgotten}
 use Rattle.doc_api.specs.declared.reply.Reply.TheVariants.{Account, Size, Copied, Refused, Keys, Items}
-use Rattle.doc_api.specs.declared.reply.Reply.TheVariants.{Conflicts, Show, Operations, Chains}
+use Rattle.doc_api.specs.declared.reply.Reply.TheVariants.{Conflicts, Show, Operations, Chains, Index}
 use Rattle.line_proto.specs.declared.line_reply.LineReply.{LineReply}
 use Rattle.line_proto.specs.declared.line_reply.LineReply.TheVariants.{Answered}
 use Rattle.line_proto.specs.declared.write.WriteFault.{WriteFault}
@@ -18,6 +18,7 @@ needs_heap Known = false
 needs_heap (Held missing) = false
 needs_heap (Waiting held) = false
 needs_heap Forgotten = false
+needs_heap (Index n) = false
 needs_heap (Account n) = false
 needs_heap (Size logged copied replicas) = false
 needs_heap (Copied is) = false

@@ -153,6 +153,7 @@ fn stack_line(reply: &Reply) -> Option<Line>
         Reply::Applied { count, dropped, id } => Some(applied(*count, *dropped, id)),
         Reply::Known => Some(fixed("[\"known\"]\n")),
         Reply::Forgotten => Some(fixed("[\"forgotten\"]\n")),
+        Reply::Index(n) => Some(numbered("[\"index\",", *n)),
         Reply::Account(n) => Some(numbered("[\"account\",", *n)),
         Reply::Size {
             logged,

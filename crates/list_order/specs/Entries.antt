@@ -1,5 +1,5 @@
 -- The ids of a list in its order, each with whether it is present.
-use Rattle.std.specs.Prelude.{List, map, filter, Bool, false, Option, Some, None, if◌then◌else◌}
+use Rattle.std.specs.Prelude.{List, [], ◌∷◌, map, filter, Bool, false, Option, Some, None, if◌then◌else◌}
 use Rattle.std.specs.declared.cmp.Ordering.{Ordering}
 use Rattle.doc_api.specs.Words.{Id, id_cmp}
 use Rattle.crdt_rules.specs.Same.{id_eq}
@@ -31,3 +31,8 @@ with_presence entries id is = map (λ e. if id_eq e.0 id then (e.0, is) else e) 
 -- the entries with none present
 abbrev pub all_absent : List (Id × Bool) → List (Id × Bool)
 all_absent entries = map (λ e. absent e.0) entries
+
+-- the entries up to the first with an id, itself included. All of them, where none has it
+abbrev pub up_to : Id → List (Id × Bool) → List (Id × Bool)
+up_to id [] = []
+up_to id (e ∷ entries) = if id_eq e.0 id then e ∷ [] else e ∷ up_to id entries

@@ -80,6 +80,12 @@ new_mark marks previous = record { is_present = false; block = block_behind mark
 abbrev pub bit : Bool → ℕ
 bit b = if b then 1 else 0
 
+-- how many ids along a path are present up to a slot, itself included
+abbrev pub count_to : SlotNumber → List Mark → List SlotNumber → ℕ
+count_to n marks [] = 0
+count_to n marks (m ∷ path) =
+    bit (mark_at marks m).is_present + (if nat_eq m.0 n.0 then 0 else count_to n marks path)
+
 abbrev pub moved : ℕ → Bool → Bool → ℕ
 moved count was is = count - bit was + bit is
 

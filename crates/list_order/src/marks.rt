@@ -3,7 +3,7 @@ ghost use Rattle.std.specs.Prelude.{◌≡◌, ◌^◌, ◌&&◌, nat_eq, ◌+�
 ghost use Rattle.std.specs.Prelude.{length, suc, None, Some};
 ghost use Rattle.std.specs.Prelude.{slice_get, vec_capacity, IsOk, OnOk};
 ghost use Rattle.std.specs.Option.{ForSome};
-ghost use Rattle.list_order.specs.Slots.{LinksEnd};
+ghost use Rattle.list_order.specs.Slots.{slots_from, LinksEnd};
 ghost use Rattle.list_order.specs.Marks.{bit, block_at, lowered_in, moved_in, present_from};
 ghost use Rattle.list_order.specs.Marks.{set_block, set_mark};
 ghost use Rattle.list_order.specs.Marks.{new_mark, FitsChain, IsClosed, IsRecut, MaySet};
@@ -242,6 +242,50 @@ impl Marks {
             at = block.end;
         }
         self.nth_from(chain, at, left)
+    }
+}
+
+impl Marks {
+    // How many ids are present from a slot on up to another, itself included.
+    fn count_from(&self, chain: &Chain, start: Option<SlotNumber>, n: SlotNumber) -> usize
+        requires walk { LinksEnd chain.now.slots.items start }
+        requires marked { length self.now.by_slot.items ≡ length chain.now.slots.items }
+        ensures { result
+            ≡ Spec.count_to n self.now.by_slot.items (slots_from chain.now.slots.items start) }
+    {
+        let mut count = 0;
+        let mut at = start;
+        while let Some(m) = at {
+            let is_present = self.at(m).is_present;
+            count += bit(is_present);
+            if m.0 == n.0 {
+                break;
+            }
+            at = chain.slot_at(m).next;
+        }
+        count
+    }
+
+    /// How many ids are present up to a slot, itself included: it adds up the blocks before the
+    /// slot's, and then goes from slot to slot.
+    pub fn count_to(&self, chain: &Chain, n: SlotNumber) -> usize
+        requires fits { FitsChain chain.now self.now }
+        requires within { n.0 < length self.now.by_slot.items }
+        ensures { result ≡ Spec.count_to n self.now.by_slot.items
+            (slots_from chain.now.slots.items chain.now.first) }
+    {
+        let mut left = self.at(n).block;
+        let mut count = 0;
+        let mut start = chain.first;
+        for block in self.blocks.as_slice() {
+            if left == 0 {
+                break;
+            }
+            left -= 1;
+            count += block.present;
+            start = block.end;
+        }
+        count + self.count_from(chain, start, n)
     }
 }
 

@@ -34,7 +34,7 @@ use Rattle.line_proto.specs.Replies.{worded}
 use Rattle.line_proto.proofs.Found.{found_step, ok_or-Ok, if_Ok, both_hold, by_word, steps_from-Some, look_of-Some, limit_from-Some, mutation_of_verb-Ok}
 use Rattle.line_proto.proofs.Refusing.{op_from-never_memory}
 use Rattle.line_proto.proofs.Requests.{steps_from-step_data, val_of-put, int_of-of_integer}
-use Rattle.replica_c.specs.Asking.{plain_ask, ask_deletion, ask_delivery, ask_forgetting, ask_where, ask_look, short_ask, ask_ops, ask_chains, ask_change, long_ask, ask_by, ask_items, ask_from, ask_of}
+use Rattle.replica_c.specs.Asking.{plain_ask, ask_deletion, ask_delivery, ask_forgetting, ask_where, ask_index, ask_look, short_ask, ask_ops, ask_chains, ask_change, long_ask, ask_by, ask_items, ask_from, ask_of}
 use Rattle.replica_c.specs.Places.{whole_document, place_start_number, place_start, place_items, place_from}
 use Rattle.replica_c.specs.Written.{has_id, starts_a_place, WritesStart, WritesPlace, change_ask_data, AsksFor}
 use Rattle.replica_c.specs.declared.ask.Ask.{Ask}
@@ -164,6 +164,7 @@ asks_written d (Act (Change place change)) (at, written, is, within) = ap ask_fr
 asks_written d (Act (Deliver op)) (is, within) = ap ask_from is ∙ rw (op_from-wire op within) refl
 asks_written d (Act (Forget id)) (is, within) = ap ask_from is ∙ rw (id_from-id_data id within) refl
 asks_written d (Read (query.Resolve place)) (at, written, is) = ap ask_from is ∙ rw (place_from-of at place written) refl
+asks_written d (Read (query.Index place)) (at, written, is) = ap ask_from is ∙ rw (place_from-of at place written) refl
 asks_written d (Read (query.Look look place)) (at, written, is) = ap ask_from is ∙ asks_look at place look written
 asks_written d (Read (query.Operations front limit)) (is, within) =
     let parts = and_parts (list_all is_entry front && is_ascending front) (nat_le 1 limit && nat_le limit 64) within in
@@ -207,6 +208,12 @@ where-Ok verb a is asked h =
     let same : Read (query.Resolve place.0) ≡ asked = cc in
     subst (AsksFor (worded verb (a ∷ []))) same (a, place_from-Some a place.0 place.1, ap (λ w. worded w (a ∷ [])) is)
 
+index-Ok : (verb : List ℕ) (a : Data) → verb ≡ codes "index" → OkWrites verb (a ∷ []) (ask_index a)
+index-Ok verb a is asked h =
+    let place = found_step (place_from a) BadRequest _ asked h in
+    let same : Read (query.Index place.0) ≡ asked = cc in
+    subst (AsksFor (worded verb (a ∷ []))) same (a, place_from-Some a place.0 place.1, ap (λ w. worded w (a ∷ [])) is)
+
 look-Ok : (verb : List ℕ) (a : Data) → OkWrites verb (a ∷ []) (ask_look verb a)
 look-Ok verb a asked h =
     let look = found_step (look_of verb) BadRequest _ asked h in
@@ -219,7 +226,8 @@ short_ask-Ok verb a =
     by_word (OkWrites verb (a ∷ [])) verb (codes "delete") _ _ (deletion-Ok verb a)
     (by_word (OkWrites verb (a ∷ [])) verb (codes "deliver") _ _ (delivery-Ok verb a)
     (by_word (OkWrites verb (a ∷ [])) verb (codes "forget") _ _ (forgetting-Ok verb a)
-    (by_word (OkWrites verb (a ∷ [])) verb (codes "cursor") _ _ (where-Ok verb a) (look-Ok verb a))))
+    (by_word (OkWrites verb (a ∷ [])) verb (codes "cursor") _ _ (where-Ok verb a)
+    (by_word (OkWrites verb (a ∷ [])) verb (codes "index") _ _ (index-Ok verb a) (look-Ok verb a)))))
 
 ops-Ok : (verb : List ℕ) (a b : Data) → verb ≡ codes "ops" → OkWrites verb (a ∷ b ∷ []) (ask_ops a b)
 ops-Ok verb a b is asked h =

@@ -40,6 +40,10 @@ ask_forgetting d = ok_or (option_map (λ id. Act (Forget id)) (id_from d)) BadRe
 abbrev pub ask_where : Data → Result Ask Refusal
 ask_where d = and_then (ok_or (place_from d) BadRequest) (λ place. Ok (Read (query.Resolve place)))
 
+-- how many present elements come up to the one at a place
+abbrev pub ask_index : Data → Result Ask Refusal
+ask_index d = and_then (ok_or (place_from d) BadRequest) (λ place. Ok (Read (query.Index place)))
+
 abbrev pub ask_look : List ℕ → Data → Result Ask Refusal
 ask_look verb d =
     and_then (ok_or (look_of verb) BadRequest) (λ look.
@@ -51,7 +55,8 @@ short_ask verb d =
     else (if bytes_eq verb (codes "deliver") then ask_delivery d
     else (if bytes_eq verb (codes "forget") then ask_forgetting d
     else (if bytes_eq verb (codes "cursor") then ask_where d
-    else ask_look verb d)))
+    else (if bytes_eq verb (codes "index") then ask_index d
+    else ask_look verb d))))
 
 abbrev pub ask_ops : Data → Data → Result Ask Refusal
 ask_ops f n =

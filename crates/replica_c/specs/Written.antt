@@ -58,6 +58,8 @@ AsksFor d (Act (Deliver op)) = (d ≡ worded (codes "deliver") (wire op ∷ []))
 AsksFor d (Act (Forget id)) = (d ≡ worded (codes "forget") (id_data id ∷ [])) × IsTrue (is_id id)
 AsksFor d (Read (query.Resolve place)) =
     (at : Data) × WritesPlace at place × (d ≡ worded (codes "cursor") (at ∷ []))
+AsksFor d (Read (query.Index place)) =
+    (at : Data) × WritesPlace at place × (d ≡ worded (codes "index") (at ∷ []))
 AsksFor d (Read (query.Look look place)) =
     (at : Data) × WritesPlace at place × (d ≡ worded (look_word look) (at ∷ []))
 AsksFor d (Read (query.Operations front limit)) =

@@ -6,8 +6,8 @@ ghost use Rattle.json_scalar.specs.Refusal.{UnlessMemory};
 ghost use Rattle.json_scalar.specs.declared.refusal.Refusal.TheVariants.{NotJson, NoMemory};
 ghost use Rattle.op_core.specs.Written.{ReadsOp};
 ghost use Rattle.line_proto.specs.Reading.{line_data};
-ghost use Rattle.replica_c.specs.Asking.{plain_ask, ask_look, ask_where, ask_deletion};
-ghost use Rattle.replica_c.specs.Asking.{ask_delivery};
+ghost use Rattle.replica_c.specs.Asking.{plain_ask, ask_look, ask_where, ask_index};
+ghost use Rattle.replica_c.specs.Asking.{ask_deletion, ask_delivery};
 ghost use Rattle.replica_c.specs.Asking.{ask_forgetting, short_ask, ask_ops, ask_chains, ask_change};
 ghost use Rattle.replica_c.specs.Asking.{long_ask};
 ghost use Rattle.replica_c.specs.Asking.{ask_by};
@@ -98,6 +98,7 @@ fn short_ask(alloc: Global, verb: &str, item: &Value) -> Result<Ask, Refusal>
         "deliver" => read_delivery(alloc, item),
         "forget" => read_forgetting(item),
         "cursor" => read_where(alloc, item),
+        "index" => read_index(alloc, item),
         _ => read_look(alloc, verb, item),
     }
 }
@@ -127,6 +128,12 @@ fn read_where(alloc: Global, place: &Value) -> Result<Ask, Refusal>
     ensures { UnlessMemory result (ask_where (view place.now)) }
 {
     Ok(Ask::Read(Query::Resolve(read_place(alloc, place)?)))
+}
+
+fn read_index(alloc: Global, place: &Value) -> Result<Ask, Refusal>
+    ensures { UnlessMemory result (ask_index (view place.now)) }
+{
+    Ok(Ask::Read(Query::Index(read_place(alloc, place)?)))
 }
 
 fn read_look(alloc: Global, verb: &str, place: &Value) -> Result<Ask, Refusal>

@@ -15,7 +15,7 @@ use Rattle.doc_tree.specs.Nodes.{tree_facts, tree_role}
 use Rattle.crdt_rules.specs.Log.{IsGood}
 use Rattle.doc_view.specs.Readings as view
 use Rattle.doc_view.specs.TreeValues.{tree_values}
-use Rattle.doc_rules.specs.Answers.{MayAnswer, ReadsHere, LooksHere, reply_with}
+use Rattle.doc_rules.specs.Answers.{MayAnswer, ReadsHere, LooksHere, IndexHere, reply_with}
 use Rattle.doc_rules.specs.Resolve.{Resolves}
 use Rattle.doc_rules.proofs.Looks.{look_answers}
 use Rattle.replica_core.specs.AgreesWith.{AgreesWith}
@@ -46,3 +46,10 @@ pub resolve_answered : (name : List ℕ) (log held : List Op) (mine : Counts) (t
     → Resolves (tree_facts tree) place.start place.steps (Ok c) → MayAnswer (replica_of name log held) mine (query.Resolve place) (reply.Resolved c)
 resolve_answered name log held mine tree agrees place c leads =
     inl (Ok c, subst (λ f. Resolves f place.start place.steps (Ok c)) agrees.facts_are leads, refl)
+
+-- how many present elements come up to the one where they lead
+pub index_answered : (name : List ℕ) (log held : List Op) (mine : Counts) (tree : TreeValue) → AgreesWith tree log → (place : Place) (c : Cursor)
+    (answer : Reply) → Resolves (tree_facts tree) place.start place.steps (Ok c) → IndexHere (tree_facts tree) c answer
+    → MayAnswer (replica_of name log held) mine (query.Index place) answer
+index_answered name log held mine tree agrees place c answer leads here =
+    inl (Ok c, subst (λ f. Resolves f place.start place.steps (Ok c)) agrees.facts_are leads, subst (λ f. IndexHere f c answer) agrees.facts_are here)

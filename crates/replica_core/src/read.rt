@@ -10,7 +10,7 @@ ghost use Rattle.replica_core.specs.Whole.{replica_with};
 use crate::body::Body;
 use doc_api::{CompactText, Counts, Look, Place, Query, Reply, Scalars, State};
 use doc_tree::Tree;
-use doc_view::{conflicts_text, items_text, keys_text, resolve, show, sum, values};
+use doc_view::{conflicts_text, index, items_text, keys_text, resolve, show, sum, values};
 use json_scalar::Refusal;
 use lamport_id::Id;
 use log_chains::chains_text;
@@ -30,6 +30,7 @@ impl Body {
     {
         match query {
             Query::Resolve(place) => self.resolve_place(place),
+            Query::Index(place) => self.index_of_place(place),
             Query::Look(look, place) => self.look_at_place(alloc, look, place),
             Query::Operations(front, limit) => self.operations(&front, limit),
             Query::Chains(after, front) => self.chains(alloc, &after, &front),
@@ -75,6 +76,19 @@ impl Body {
         let Place { start, steps } = place;
         match resolve(self.tree(), start, steps.as_slice()) {
             Ok(cursor) => Reply::Resolved(cursor),
+            Err(cause) => Reply::Refused(cause),
+        }
+    }
+
+    // How many present elements come up to the one at a place.
+    fn index_of_place(&self, place: Place) -> Reply
+        ensures { (name : List ℕ) (counts : Counts)
+            → MayAnswer (replica_with name self.now) counts (query.Index place) result }
+    {
+        let Place { start, steps } = place;
+        let tree = self.tree();
+        match resolve(tree, start, steps.as_slice()) {
+            Ok(cursor) => index_reply(index(tree, &cursor)),
             Err(cause) => Reply::Refused(cause),
         }
     }
@@ -157,6 +171,15 @@ fn look_at(alloc: Global, tree: &Tree, look: Look, cursor: &Cursor) -> Reply
         Look::Conflicts => conflicts_reply(conflicts_text(alloc, tree, cursor)),
         Look::Show => show_reply(show(alloc, tree, cursor)),
         Look::Sum => sum_reply(sum(tree, cursor)),
+    }
+}
+
+fn index_reply(answer: Result<u64, Refusal>) -> Reply
+    ensures { result ≡ reply_with (λ x. Reply.Index x) answer }
+{
+    match answer {
+        Ok(index) => Reply::Index(index),
+        Err(cause) => Reply::Refused(cause),
     }
 }
 

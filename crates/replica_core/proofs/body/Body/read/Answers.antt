@@ -4,6 +4,9 @@ use Rattle.replica_core.proofs.body.Body.read.Goals as goal
 pub returns-in-Resolve-clause-answer : goal.returns-in-Resolve-clause-answer
 returns-in-Resolve-clause-answer c name = rw c.in-Resolve.is (c.resolve_place.ensures name c.args.counts)
 
+pub returns-in-Index-clause-answer : goal.returns-in-Index-clause-answer
+returns-in-Index-clause-answer c name = rw c.in-Index.is (c.index_of_place.ensures name c.args.counts)
+
 pub returns-in-Look-clause-answer : goal.returns-in-Look-clause-answer
 returns-in-Look-clause-answer c name = rw c.in-Look.is (c.look_at_place.ensures name c.args.counts)
 
