@@ -74,6 +74,7 @@ value_at-same set set' one one' same = fun_ext (λ p. fun_ext (λ k. fun_ext (λ
 
 read_of : (r : Replica) (mine : Counts) (q : Query) (answer : Reply) → MayAnswer r mine q answer → IsReadOf (replica_facts r) (value_put_at r.log) q answer
 read_of r mine (query.Resolve place) answer h = h
+read_of r mine (query.Index place) answer h = h
 read_of r mine (query.Look look place) answer h = h
 read_of r mine asked answer h = tt
 

@@ -10,7 +10,7 @@ use Rattle.doc_api.specs.declared.reply.Reply.TheVariants.{Refused, Resolved}
 use Rattle.crdt_rules.specs.Facts.{Facts, facts}
 use Rattle.crdt_rules.specs.Free.{AreFactsOf}
 use Rattle.crdt_rules.specs.Log.{IsCausalOrder, replay}
-use Rattle.doc_rules.specs.Answers.{LooksHere}
+use Rattle.doc_rules.specs.Answers.{IndexHere, LooksHere}
 use Rattle.doc_rules.specs.Views.{Values}
 use Rattle.doc_rules.specs.Resolve.{Resolves}
 use Rattle.doc_rules.specs.Role.{value_put_at}
@@ -26,6 +26,7 @@ IsReadWhere f place reads answer =
 -- the log itself this says nothing
 abbrev pub IsReadOf : Facts → Values → Query → Reply → Type 0
 IsReadOf f values (query.Resolve place) answer = IsReadWhere f place (λ c a. a ≡ Resolved c) answer
+IsReadOf f values (query.Index place) answer = IsReadWhere f place (IndexHere f) answer
 IsReadOf f values (query.Look look place) answer = IsReadWhere f place (LooksHere f values look) answer
 IsReadOf f values _ answer = Unit {0}
 

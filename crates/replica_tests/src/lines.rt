@@ -314,6 +314,7 @@ fn writes_replies_of_the_session(rt: HostRuntime) -> Result<(), Fail> {
 fn writes_replies_of_one_part(rt: HostRuntime) {
     assert!(rt; is_answered_as(rt.alloc(), Reply::Known, "[\"known\"]\n"));
     assert!(rt; is_answered_as(rt.alloc(), Reply::Forgotten, "[\"forgotten\"]\n"));
+    assert!(rt; is_answered_as(rt.alloc(), Reply::Index(3), "[\"index\",3]\n"));
     assert!(rt;
         is_answered_as(
             rt.alloc(),
