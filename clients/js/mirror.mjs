@@ -1,12 +1,11 @@
 /* A list of an engine that only answers requests, as whoever follows it was told of it: the ids of
    its elements in order, and their last values. This is no second tree or log: where a changed
-   element is, and what it holds, the engine says. Of a list of n elements it is asked about log n
-   times for a change, and for the whole list where most of it may have changed. */
+   element is, and what it holds, the engine says. It is asked three times for a change, and for the
+   whole list where much of it may have changed. */
 
-import { Refused, refusalOf } from "./errors.mjs";
 import { isArray, isMap, parse, print } from "./json.mjs";
 import { MOST } from "./limits.mjs";
-import { isId } from "./operations.mjs";
+import { compareIds, isId } from "./operations.mjs";
 import { endOf, placeOf, writtenOf } from "./places.mjs";
 
 /** @typedef {import("./operations.mjs").Cursor} Cursor */
@@ -74,13 +73,6 @@ export class Mirror {
     let base = this.#bases.get(replica);
     if (base === undefined) this.#bases.set(replica, (base = this.#bases.size * (MOST.log + 1)));
     return base + id[0];
-  }
-
-  /** How many elements come up to this one, itself included. 0 if it isn't in the list.
-   *  @param {Id} id */
-  indexOf(id) {
-    this.take();
-    return this.has(id) ? this.#keys.indexOf(this.#keyOf(id)) + 1 : 0;
   }
 
   end() {}
@@ -210,7 +202,7 @@ export class Mirror {
     const old = this.#old();
     const kept = old.length > 0 ? [...this.#keys] : this.#keys;
     for (let at = old.length; at-- > 0; ) kept.splice(old[at], 1);
-    const found = this.#search(kept);
+    const found = this.#found();
     return this.#splices(old, kept, found, new Map(found.map(({ key, id }) => [key, this.#valueOf(id)])));
   }
 
@@ -223,55 +215,20 @@ export class Mirror {
     return old;
   }
 
-  /** Where the changed elements are that are present. The others are as they were: so a request by
-   *  index shows by one of them how many of the changed ones are before it.
-   *  @param {number[]} kept The others.
+  /** Where the changed elements are that are present, in order.
    *  @returns {Found[]} */
-  #search(kept) {
-    let [least, most] = [kept.length, kept.length + this.#changed.size]; // of the list's length
-    while (least < most) {
-      const middle = (least + most + 1) >> 1;
-      if (this.#at(middle - 1)) least = middle;
-      else most = middle - 1;
-    }
-    /** @type {Found[]} */
-    const found = [];
-    this.#searchIn(kept, [0, least], [0, least - kept.length], found);
-    return found;
+  #found() {
+    const all = [...this.#changed].map(([key, id]) => ({ index: this.#indexOf(id) - 1, key, id }));
+    return all.filter(({ index }) => index >= 0).sort((a, b) => a.index - b.index);
   }
 
-  /** Finds those from one index to another one.
-   *  @param {number[]} kept
-   *  @param {[number, number]} range
-   *  @param {[number, number]} counts How many are before each.
-   *  @param {Found[]} found */
-  #searchIn(kept, [from, to], [before, upTo], found) {
-    if (before === upTo) return;
-    const middle = (from + to) >> 1;
-    /** @type {Found[]} */
-    const run = [];
-    let [at, key] = [middle, 0];
-    for (; at < to; at++) {
-      const id = /** @type {Id} */ (this.#at(at));
-      key = this.#keyOf(id);
-      if (!this.#changed.has(key)) break;
-      run.push({ index: at, key, id });
-    }
-    let count = at < to ? before : upTo; // how many are before `at`
-    while (at < to && kept[at - count] !== key) if (++count > upTo) throw new Error("unheard change");
-    this.#searchIn(kept, [from, middle], [before, count - run.length], found);
-    found.push(...run);
-    this.#searchIn(kept, [at + 1, to], [count, upTo], found);
-  }
-
-  /** The element behind the first `index` ones, if there is one.
-   *  @param {number} index
-   *  @returns {Id | undefined} */
-  #at(index) {
-    const place = refusalOf(() => this.#read("cursor", [writtenOf(this.#place), index + 1]));
-    if (!(place instanceof Refused)) return /** @type {Id} */ (placeOf(place).pop());
-    if (place.number !== 9) throw place;
-    return undefined;
+  /** The index of an element; 0 where it isn't present.
+   *  @param {Id} id
+   *  @returns {number} */
+  #indexOf(id) {
+    const index = this.#read("index", [writtenOf([...this.#place, id])]);
+    const there = placeOf(this.#read("cursor", [writtenOf(this.#place), index])).pop();
+    return isId(there) && compareIds(there, id) === 0 ? index : 0; // of one that isn't, another one's
   }
 
   /** Makes of what was what is, from the first change to the last one.

@@ -20,7 +20,7 @@ import { copyPlace, placeOfSayings, sayings } from "./copies.mjs";
 import { Refused, refusalOf } from "./errors.mjs";
 import { Events } from "./events.mjs";
 import { Exchange } from "./exchange.mjs";
-import { Indices, operationsOf, placeAt, reading } from "./followers.mjs";
+import { operationsOf, placeAt, reading } from "./followers.mjs";
 import { carried, composed } from "./generations.mjs";
 import { History } from "./history.mjs";
 import { load, loaded } from "./jcrdt.mjs";
@@ -34,7 +34,7 @@ import { endOf, requestOf, writtenOf } from "./places.mjs";
 import { REFUSALS } from "./protocol.mjs";
 import { remakeIn } from "./renewal.mjs";
 import {
-  Counter, bare, checkValue, checkedInteger, integer, isGiven, pieces, plain,
+  Counter, bare, checkValue, checkedInteger, integer, isBare, isGiven, pieces, plain,
 } from "./values.mjs";
 
 /** @typedef {import("./events.mjs").Changed} Changed */
@@ -98,8 +98,6 @@ export class Replica {
   /** @type {Open} */
   #open;
   #engine;
-  /** @type {Indices} */
-  #indices;
   #count = 0;
   /** @type {Map<string, number>} */
   #front = new Map();
@@ -123,7 +121,6 @@ export class Replica {
     this.#doc = doc;
     this.#open = options.engine ?? loaded();
     this.#engine = new LastingEngine(this.#open, name);
-    this.#indices = new Indices(this.#read);
     this.#history = new History((request) => this.#engine.ask(request), this.#read,
       (word, place, ...value) => this.#edit(word, place, ...value));
     this.#exchange = this.#newExchange(0);
@@ -212,7 +209,6 @@ export class Replica {
   #use(engine, count) {
     this.#engine.free();
     this.#engine = engine;
-    this.#indices = new Indices(this.#read);
     this.#count = count;
     this.#front = new Map(this.#read("front"));
     this.#mayHold = false;
@@ -371,6 +367,10 @@ export class Replica {
    *  @param {0 | Id} reference
    *  @param {any[]} values */
   #insertAll(list, reference, values) {
+    if (values.length > 1 && values.every(isBare)) {
+      const ids = this.#insertBare(list, reference, values);
+      return { ids, all: ids };
+    }
     /** @type {[ids: Id[], all: Id[]]} */
     const [ids, all] = [[], []];
     let before = reference;
@@ -384,6 +384,71 @@ export class Replica {
       if (isCounter) all.push(...this.#addAll([...list, before], value.sum));
     }
     return { ids, all };
+  }
+
+  /** Inserts scalars, {} and [] behind an element or head, one behind another.
+   *  @param {Cursor} list
+   *  @param {0 | Id} reference
+   *  @param {any[]} values
+   *  @returns {Id[]} */
+  #insertBare(list, reference, values) {
+    /** @type {Id[]} */
+    const ids = [];
+    for (let at = 0; at < values.length; at += MOST_AT_ONCE) {
+      const request = this.#request([...list, at === 0 ? reference : ids[at - 1]]);
+      const some = values.slice(at, at + MOST_AT_ONCE).map(bare);
+      const befores = some.map((_, of) => (at + of === 0 ? this.#history.before("insert", request) : NOTHING_BEFORE));
+      for (const id of this.#run("inserts", request, some, befores)) ids.push(id);
+    }
+    return ids;
+  }
+
+  /** Deletes so many elements of a list, the first one at an index, which are these.
+   *  @param {Cursor} list
+   *  @param {number} index
+   *  @param {Id[]} ids */
+  #deleteAll(list, index, ids) {
+    for (let at = 0; at < ids.length; at += MOST_AT_ONCE) {
+      const some = ids.slice(at, at + MOST_AT_ONCE);
+      const befores = some.map((id) => this.#history.before("delete", this.#request([...list, id])));
+      this.#run("deletes", [writtenOf(list), index], some.length, befores);
+    }
+  }
+
+  /** Makes several changes by one request. Where memory lacks in the middle, what was made is noted before that
+   *  is thrown.
+   *  @param {"inserts" | "deletes"} word
+   *  @param {any[]} request
+   *  @param {any} operand
+   *  @param {import("./history.mjs").Before[]} befores What each is about to change.
+   *  @returns {Id[]} */
+  #run(word, request, operand, befores) {
+    return this.#events.batch(() => {
+      const { reply, line = "" } = this.#engine.ask([word, request, operand]);
+      if (reply[0] === "no") throw new Refused(reply[1], reply[2], reply[3]);
+      const lines = line.split("\n");
+      const made = lines.map((it) => parse(it));
+      for (const [at, op] of made.entries()) this.#history.after(op, befores[at]);
+      this.#logAll(made, lines, reply[1]);
+      this.#lastPlace = endOf(made[made.length - 1]);
+      if (made.length < befores.length) throw new Refused(22);
+      return made.map(([, id]) => id);
+    });
+  }
+
+  /** Notes what one request has logged: own operations, and held ones that they released.
+   *  @param {Operation[]} made
+   *  @param {string[]} lines
+   *  @param {number} count */
+  #logAll(made, lines, count) {
+    const all = count === made.length ? made : [...operationsOf(this.#read, this.#front)];
+    const own = new Map(made.map(({ 1: id }, at) => [String(id), lines[at]]));
+    const why = this.#history.isTurning ? "undo" : "own";
+    this.#events.note(all);
+    for (const op of all) {
+      const line = own.get(String(op[1]));
+      this.#note(op, line ?? print(op), line === undefined ? "taken" : why);
+    }
   }
 
   /** As Array.splice: behind the first `index` elements it inserts the values, nested or not, and
@@ -412,7 +477,7 @@ export class Replica {
     this.#checkRoom(operations.reduce((sum, it) => sum + it, count));
     return this.group(() => {
       const { ids } = this.#insertAll(list, index > 0 ? near[0] : 0, all);
-      for (const id of near.slice(index > 0 ? 1 : 0)) this.#edit("delete", [...list, id]);
+      this.#deleteAll(list, index + ids.length + 1, near.slice(index > 0 ? 1 : 0));
       return ids;
     });
   }
@@ -497,7 +562,6 @@ export class Replica {
     this.#count++;
     this.#front.set(op[1][1], op[1][0]);
     this.#history.note(op);
-    this.#indices.note(op);
     this.#events.log(line, op, why);
   }
 
@@ -509,7 +573,7 @@ export class Replica {
   /** The index of an element or head; of a deleted element, that of the present one before it.
    *  @param {Cursor} place
    *  @returns {number} */
-  indexOf(place) { return this.#indices.of(this.place(place)); }
+  indexOf(place) { return this.#read("index", this.#request(place)); }
 
   // ---- Undo and redo, by new operations
 
@@ -816,6 +880,9 @@ export class Replica {
 }
 
 const MANY = 256; // operations that an empty replica takes at once
+const MOST_AT_ONCE = 1024; // changes of one request
+/** @type {import("./history.mjs").Before} */
+const NOTHING_BEFORE = { remains: [], fresh: 0 };
 const MOST_SINGLY = 256; // so many elements are asked for one by one, and not with the whole list
 
 /** @param {any} value */

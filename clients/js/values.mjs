@@ -75,6 +75,11 @@ export function settled(value, choose = (conflict) => conflict.last) {
  *  @param {any} value */
 export const bare = (value) => (Array.isArray(value) ? [] : isMap(value) ? {} : value);
 
+/** Whether one operation puts all of a value.
+ *  @param {any} value */
+export const isBare = (value) => !(value instanceof Counter)
+  && (typeof value !== "object" || value === null || !Object.values(value).some(isGiven));
+
 /** The scalar as it is kept. Refuses with 6, `bad-value`, what no operation can hold.
  *  @param {any} value
  *  @returns {Scalar} */

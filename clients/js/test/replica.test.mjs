@@ -47,6 +47,43 @@ for (const [title, engine] of engines) {
     deepEqual(me.place([0, "text", id, "k"]), [0, "text", id, "k"]);
   });
 
+  test(`${title}: a paste is a request for each 1,024 characters, and one step of undo`, () => {
+    /** @type {string[]} */
+    const words = [];
+    const me = new Replica("ada", "d", {
+      engine: (name, lines) => {
+        const opened = engine(name, lines);
+        const { ask } = opened;
+        opened.ask = (request) => (words.push(request[0]), ask.call(opened, request));
+        return opened;
+      },
+    });
+    const asked = (/** @type {string} */ word) => words.filter((it) => it === word).length;
+    me.put([0], { text: [..."<>"], note: "x" });
+    words.length = 0;
+    const events = /** @type {number[]} */ ([]);
+    const model = [..."<>"];
+    me.listen(({ lines }) => events.push(lines.length));
+    me.watch([0, "text"], (splices) => apply(model, splices));
+    const pasted = Array.from({ length: 2500 }, (_, at) => String.fromCodePoint(0x4e00 + at)).join("");
+    const ids = me.splice([0, "text"], 1, 0, pasted);
+    deepEqual([asked("inserts"), asked("insert")], [3, 0]);
+    deepEqual(ids, Array.from({ length: 2500 }, (_, at) => [6 + at, "ada"])); // behind {}, [], two and "x"
+    deepEqual([me.text([0, "text"]), model.join(""), events], [`<${pasted}>`, `<${pasted}>`, [2500]]);
+    equal(me.indexOf([0, "text", ids[1999]]), 2001);
+    me.splice([0, "text"], 1, 2498, "");
+    deepEqual([asked("deletes"), asked("delete")], [3, 0]);
+    deepEqual([me.text([0, "text"]), model.join("")], [`<${pasted.slice(-2)}>`, `<${pasted.slice(-2)}>`]);
+    throws(() => me.splice([0, "text"], 1, 4, "abc"), { number: 9 });
+    ok(me.undo());
+    equal(me.text([0, "text"]), `<${pasted}>`);
+    ok(me.undo() && me.text([0, "text"]) === "<>" && me.redo());
+    equal(me.text([0, "text"]), `<${pasted}>`);
+    const other = replicaOf("bob");
+    other.deliverAll(me.lines().slice(1));
+    equal(other.text([0, "text"]), `<${pasted}>`);
+  });
+
   test(`${title}: chains tell whose operations differ`, () => {
     const [ada, other, bob] = ["ada", "ada", "bob"].map(replicaOf);
     [ada, other, bob].forEach((replica, at) => replica.assign([0, "k"], at));

@@ -178,7 +178,8 @@ class Replica:
 
     def answer(self, line: bytes) -> Tuple[bytes, Optional[str]]:
         """The reply's line to a request's line, both without newline; and the line of the operation that the request made, if it
-        made one. Raises MemoryError, ValueError where it is closed, and Lost in another process."""
+        made one, or the lines of several with newlines between them. Raises MemoryError, ValueError where it is closed, and Lost
+        in another process."""
         self._check_process()
         with self._lock:
             if (self._own.is_mute or self._own.is_doubtful) and is_change(_request_of(line)):
@@ -199,10 +200,9 @@ class Replica:
                 self._room = ctypes.create_string_buffer(ROOM)  # a large reading doesn't stay
         if not text:
             raise MemoryError("the request was answered, but there was no memory for the text of its answer")
-        reply, made = text.split(b"\n")[:2]
-        if made:
-            self._made.append(made.decode())
-        return reply, made.decode() or None
+        reply, *made = text.decode().rstrip("\n").split("\n")
+        self._made += made
+        return reply.encode(), "\n".join(made) or None
 
     @property
     def is_doubtful(self) -> bool:
@@ -314,6 +314,26 @@ class Replica:
         found: Id = self.ask(*request)[2]
         return found
 
+    def insert_all(self, cursor: Cursor, values: Sequence[Any]) -> List[Id]:
+        """Inserts scalars, {} and [] by one request, the first one behind the element or head at the cursor, each other one behind
+        the one before. Where one is refused none is inserted. Raises MemoryError where memory lacks in the middle: what was inserted
+        by then stays."""
+        return self._changed_all(len(values), "inserts", cursor, list(values)) if values else []
+
+    def delete_all(self, cursor: Cursor, count: int) -> List[Id]:
+        """Deletes so many elements of a list by one request, the first one at the cursor, which ends with an index. Where the list
+        has fewer none is deleted. Raises MemoryError as `insert_all`."""
+        return self._changed_all(count, "deletes", cursor, count) if count else []
+
+    def _changed_all(self, count: int, *request: Any) -> List[Id]:
+        reply, made = self.answer(wire.encoded(list(request)))
+        if made is None:
+            raise Refused(*wire.decoded_reply(reply)[1:])
+        ids: List[Id] = [wire.decoded(it.encode())[1] for it in made.split("\n")]
+        if len(ids) < count:
+            raise MemoryError(f"{len(ids)} of {count} changes were made")
+        return ids
+
     def put(self, cursor: Cursor, value: Any) -> None:
         """Assigns a nested value, one operation for each part. Raises what `wire.checked_value` raises before anything is changed."""
         self._write([self.place(cursor)], wire.checked_value(value))
@@ -341,6 +361,9 @@ class Replica:
         path, key = self.place(place)
         path = [*path, ["l", key]]
         behind: List[Any] = [[path, 1]]
+        if not any(isinstance(it, (dict, list)) and it for it in items):
+            self.insert_all(behind, items)
+            return
         for item in items:
             values, counter = wire.apart(item)
             behind = [[path, self.insert(behind, wire.bare(values[0]) if values else None)]]
@@ -354,6 +377,12 @@ class Replica:
     def place(self, cursor: Cursor) -> List[Any]:
         """Where a cursor leads, in its written form `[PATH,KEY]`: it goes on to mean that element when the list moves."""
         found: List[Any] = self.ask("cursor", list(cursor))[0]
+        return found
+
+    def index(self, cursor: Cursor) -> int:
+        """How many present elements of the list come up to the one at the cursor, itself included: its index, where it is present. 0 for a
+        head. Raises Refused (11) where the cursor ends at a key."""
+        found: int = self.ask("index", list(cursor))[0]
         return found
 
     def plain(self, cursor: Cursor = (0,)) -> Any:

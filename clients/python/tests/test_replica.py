@@ -56,6 +56,40 @@ def test_a_caret_stays_at_its_element(ada: Replica) -> None:
     assert ada.plain([0, "l"]) == ["before", "a", "B", "after b"]
 
 
+def test_several_elements_are_inserted_and_deleted_at_once(ada: Replica) -> None:
+    ada.put([0, "l"], ["<", ">"])
+    ada.made()
+    ids = ada.insert_all([0, "l", 1], ["a", 2, None, {}])
+    assert ids == [[4, "ada-1"], [5, "ada-1"], [6, "ada-1"], [7, "ada-1"]]
+    assert ada.plain([0, "l"]) == ["<", "a", 2, None, {}, ">"]
+    assert ada.made() == ada.lines()[3:]
+    assert ada.delete_all([0, "l", 2], 3) == [[8, "ada-1"], [9, "ada-1"], [10, "ada-1"]]
+    assert ada.plain([0, "l"]) == ["<", {}, ">"]
+    lines = ada.lines()
+    assert (ada.insert_all([0, "l", 1], []), ada.delete_all([0, "l", 1], 0)) == ([], [])
+    for number, refused in [(9, lambda: ada.delete_all([0, "l", 2], 3)), (9, lambda: ada.insert_all([0, "l", 9], ["x"])),
+                            (6, lambda: ada.insert_all([0, "l", 1], ["x", 0.5])), (11, lambda: ada.insert_all([0, "l"], ["x", "y"])),
+                            (10, lambda: ada.delete_all([0, "l", 0], 1))]:
+        with pytest.raises(Refused) as raised:
+            refused()
+        assert raised.value.number == number
+    assert ada.lines() == lines
+    with Replica("ada-1", lines) as again:
+        assert again.plain() == ada.plain()
+
+
+def test_the_index_of_an_element(ada: Replica) -> None:
+    ada.put([0, "l"], ["a", "b", "c"])
+    carets = [ada.place([0, "l", at]) for at in range(4)]
+    ada.delete([0, "l", 2])
+    assert [ada.index([it]) for it in carets] == [0, 1, 1, 2]
+    for cursor in ([0], [0, "l"], [0, "none"]):
+        with pytest.raises(Refused, match="11 not-in-list"):
+            ada.index(cursor)
+    with pytest.raises(Refused, match="9 index-past-end"):
+        ada.index([0, "l", 3])
+
+
 def test_two_replicas_show_the_same(ada: Replica) -> None:
     with Replica("bob-1") as bob:
         ada.assign([0, "t"], 2**63 - 1)
