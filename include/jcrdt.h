@@ -116,6 +116,9 @@ uint64_t jcrdt_open(jcrdt *replica, const char *name, size_t name_length, const 
    and ["cursor",PLACE], which replies ["cursor",[PATH,KEY]]. A place may start with such a cursor in
    place of 0, as in [[PATH,KEY],2]: so a caret stays at its element. ["index",PLACE] replies
    ["index",N]: how many present elements come up to that one. So a present element's index is N.
+   ["inserts",PLACE,[VALUE,..]] and ["deletes",PLACE,COUNT] make many changes, and reply as one does,
+   with the line of each operation behind the reply. Where memory lacks on the way fewer are made:
+   the lines say which.
 
    0 means: the handle owns no replica; or memory lacked for the text, though room for it was made
    beforehand. The request was answered then all the same. */

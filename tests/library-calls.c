@@ -134,6 +134,77 @@ static void indices(void) {
   jcrdt_close(&replica);
 }
 
+/* Runs: values one behind the other, elements at one index, and refusals with nothing changed. Behind the reply is the line of each
+   operation. */
+static void runs(void) {
+#define L "[[\"m\",0],[\"l\",\"l\"]]"
+#define ITEMS "[\"items\",[0,\"l\"]]"
+  static const char *const asked[][2] = {
+    {"[\"assign\",[0,\"l\"],[]]", NULL},
+    {"[\"inserts\",[0,\"l\",0],[\"a\",\"b\",\"c\"]]",
+     "[\"applied\",3,0,[2,\"ada\"]]\n"
+     "[\"op\",[2,\"ada\"],[[\"ada\",1]],[" L ",1],[\"insert\",\"a\"]]\n"
+     "[\"op\",[3,\"ada\"],[[\"ada\",2]],[" L ",[2,\"ada\"]],[\"insert\",\"b\"]]\n"
+     "[\"op\",[4,\"ada\"],[[\"ada\",3]],[" L ",[3,\"ada\"]],[\"insert\",\"c\"]]\n"},
+    {ITEMS, "[\"items\",[[[2,\"ada\"],[\"a\"]],[[3,\"ada\"],[\"b\"]],[[4,\"ada\"],[\"c\"]]]]\n"},
+    {"[\"inserts\",[0,\"l\",2],[\"d\"]]",
+     "[\"applied\",1,0,[5,\"ada\"]]\n[\"op\",[5,\"ada\"],[[\"ada\",4]],[" L ",[3,\"ada\"]],[\"insert\",\"d\"]]\n"},
+    {"[\"deletes\",[0,\"l\",2],4]", "[\"no\",9,\"index-past-end\"]\n"},
+    {"[\"deletes\",[0,\"l\",2],2]",
+     "[\"applied\",2,0,[6,\"ada\"]]\n"
+     "[\"op\",[6,\"ada\"],[[\"ada\",5]],[" L ",[3,\"ada\"]],[\"delete\"]]\n"
+     "[\"op\",[7,\"ada\"],[[\"ada\",6]],[" L ",[5,\"ada\"]],[\"delete\"]]\n"},
+    {ITEMS, "[\"items\",[[[2,\"ada\"],[\"a\"]],[[4,\"ada\"],[\"c\"]]]]\n"},
+    {"[\"deletes\",[0,\"l\",1],18446744073709551615]", "[\"no\",18,\"log-full\"]\n"},
+    {"[\"deletes\",[0,\"l\",1],99994]", "[\"no\",18,\"log-full\"]\n"},
+    {"[\"deletes\",[0,\"l\",1],99993]", "[\"no\",9,\"index-past-end\"]\n"},
+    {"[\"deletes\",[0,\"l\",18446744073709551615],2]", "[\"no\",9,\"index-past-end\"]\n"},
+    {"[\"deletes\",[0,\"l\",0],1]", "[\"no\",10,\"at-head\"]\n"},
+    {"[\"inserts\",[0,\"l\"],[1]]", "[\"no\",11,\"not-in-list\"]\n"},
+    {"[\"inserts\",[0,\"l\",3],[1]]", "[\"no\",9,\"index-past-end\"]\n"},
+    {"[\"inserts\",[0,\"l\",0],[1,1.5]]", "[\"no\",6,\"bad-value\"]\n"},
+    {"[\"inserts\",[0,\"l\",0],[]]", "[\"no\",2,\"bad-request\"]\n"}, {"[\"inserts\",[0,\"l\",0],1]", "[\"no\",2,\"bad-request\"]\n"},
+    {"[\"deletes\",[0,\"l\",1],0]", "[\"no\",2,\"bad-request\"]\n"}, {"[\"deletes\",[0,\"l\",1],\"1\"]", "[\"no\",2,\"bad-request\"]\n"},
+    {"[\"deletes\",[0,\"l\",1]]", "[\"no\",2,\"bad-request\"]\n"}, {"[\"inserts\",[\"l\"],[1]]", "[\"no\",2,\"bad-request\"]\n"},
+    {"[\"front\"]", "[\"front\",[[\"ada\",7]]]\n"},
+    {ITEMS, "[\"items\",[[[2,\"ada\"],[\"a\"]],[[4,\"ada\"],[\"c\"]]]]\n"},
+  };
+  jcrdt replica = JCRDT_CLOSED;
+  jcrdt_fault fault;
+  jcrdt_open(&replica, "ada", 3, "", 0, &fault);
+  for (size_t at = 0; at < sizeof asked / sizeof *asked; at++) {
+    if (!ask(&replica, asked[at][0], text) || (asked[at][1] && strcmp(text, asked[at][1]) != 0)) stop(asked[at][0], text);
+  }
+  jcrdt_close(&replica);
+}
+
+/* A run of three with the n-th allocation refused: the reply says how many were made, and so many are in the list. Returns whether
+   one was refused. */
+static int run_without_memory(size_t n) {
+  static const char *const made[] = {
+    "[\"no\",22,\"no-memory\"]\n", "[\"applied\",1,0,[2,\"ada\"]]\n", "[\"applied\",2,0,[2,\"ada\"]]\n", "[\"applied\",3,0,[2,\"ada\"]]\n",
+  };
+  jcrdt replica = JCRDT_CLOSED;
+  jcrdt_fault fault;
+  int count = 0, lines = 0;
+  jcrdt_open(&replica, "ada", 3, "", 0, &fault);
+  ask(&replica, "[\"assign\",[0,\"l\"],[]]", text);
+  left = n;
+  size_t length = ask(&replica, "[\"inserts\",[0,\"l\",0],[\"a\",\"b\",\"c\"]]", text);
+  int was_refused = n > 0 && left == 0;
+  left = 0;
+  while (length && count < 4 && strncmp(text, made[count], strlen(made[count])) != 0) count++;
+  for (const char *at = text; *at; at++) lines += *at == '\n';
+  if (length && (count == 4 || lines != count + 1)) stop("a run without memory", text);
+  if (!was_refused && count != 3) stop("a run", text);
+  ask(&replica, "[\"front\"]", text);
+  char front[64];
+  sprintf(front, "[\"front\",[[\"ada\",%d]]]\n", count + 1);
+  if (length && strcmp(text, front) != 0) stop("a run without memory", text);
+  jcrdt_close(&replica);
+  return was_refused;
+}
+
 /* The text of a large reading is given again, and goes at the next request. */
 static void large_reading(void) {
   enum { TEXTS = 100, LONG = 4000 };
@@ -213,6 +284,8 @@ int main(void) {
   jcrdt_close(&replica);
   after_fork();
   indices();
+  runs();
+  for (size_t at = 1; run_without_memory(at);) at++;
   large_reading();
   opened_text();
   printf("the library answers alike with each of %zu allocations refused, and misuse as its header says\n", n - 1);

@@ -329,6 +329,8 @@ class Rules {
       case "assign": case "insert": return this.#edit(first, word, operand(second));
       case "add": return this.#edit(first, word, checkedInteger(second));
       case "delete": return this.#edit(first, word);
+      case "inserts": return this.#inserts(first, second);
+      case "deletes": return this.#deletes(first, second);
       case "deliver": return this.#deliver(first);
       case "ops": return { reply: [word, this.#ops(first, second)] };
       case "chains": return { reply: [word, this.#chains(first, second)] };
@@ -429,6 +431,58 @@ class Rules {
     this.#append(entry, [path, key]);
     const { logged, dropped } = this.#drain();
     return { reply: ["applied", 1 + logged, dropped, entry.id], line: entry.text };
+  }
+
+  // ---- Runs
+
+  /** @param {any[]} cursor
+   *  @param {any} values
+   *  @returns {Answer} */
+  #inserts(cursor, values) {
+    if (!Array.isArray(values) || values.length === 0) throw new Refused(2);
+    const operands = values.map(operand);
+    this.#checkRun(operands.length);
+    let at = cursor;
+    return this.#run(operands.map((value) => () => {
+      const { path } = this.#find(at);
+      const answer = this.#edit(at, "insert", value);
+      at = [[path, answer.reply[3]]];
+      return answer;
+    }));
+  }
+
+  /** @param {any[]} cursor
+   *  @param {any} count
+   *  @returns {Answer} */
+  #deletes(cursor, count) {
+    if (!Number.isInteger(count) || count < 1) throw new Refused(2);
+    this.#checkRun(count);
+    const last = cursor[cursor.length - 1];
+    if (cursor.length > 1 && typeof last !== "string") this.#find([...cursor.slice(0, -1), Number(last) + count - 1]);
+    else this.#find(cursor);
+    return this.#run(Array.from({ length: count }, () => () => this.#edit(cursor, "delete")));
+  }
+
+  /** @param {number} count */
+  #checkRun(count) {
+    if (this.#log.length + count > MOST.log) throw new Refused(18);
+  }
+
+  /** Makes changes up to the first that is refused. The first one's refusal is that of all.
+   *  @param {(() => Answer)[]} changes
+   *  @returns {Answer} */
+  #run(changes) {
+    const made = [];
+    for (const change of changes) {
+      try {
+        made.push(change());
+      } catch (error) {
+        if (made.length === 0 || !(error instanceof Refused)) throw error;
+        break;
+      }
+    }
+    const sum = (/** @type {number} */ at) => made.reduce((all, { reply }) => all + reply[at], 0);
+    return { reply: ["applied", sum(1), sum(2), made[0].reply[3]], line: made.map(({ line }) => line).join("\n") };
   }
 
   // ---- The log

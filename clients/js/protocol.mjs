@@ -82,6 +82,8 @@ export const REPLICA_REQUESTS = new Map([
   ["forget", form("change", ["ID"], ["forgotten"])],
   ["cursor", form("look", ["CUR"], ["cursor"])],
   ["index", form("look", ["CUR"], ["index"])],
+  ["inserts", form("change", ["CUR", "[VALUE,..]"], ["applied"])],
+  ["deletes", form("change", ["CUR", "count"], ["applied"])],
 ]);
 
 /** The first words of the hub's lines that answer no request.

@@ -23,6 +23,8 @@ ALLOWED: Dict[Tuple[str, ...], str] = {
     ("op_core", "cursor_from", "replica_c", "start_cursor"): "as above",
     ("list_laws", "is_Less", "version_vector", "is_Less"): "no crate is below both",
     ("line_feed", "cond_none", "stored_log", "past_end"): "line_feed's isn't public",
+    ("locked_doc", "shorter", "replica_c", "shorter"): "replica_c isn't above locked_doc",
+    ("locked_doc", "fewer", "replica_c", "fewer"): "as above",
     ("doc_rules", "ok_same", "stored_rows", "same_value"): "doc_rules' is among the laws of places",
 }
 

@@ -1,5 +1,6 @@
 pub mod Paths
 pub mod Cutting
 pub mod Opening
+pub mod Running
 pub mod Telling
 pub mod Written

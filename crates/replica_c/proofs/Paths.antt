@@ -4,7 +4,7 @@ use Rattle.std.proofs.lemmas.List.{take_rest}
 use Rattle.std.specs.Option.{ok_or}
 use Rattle.serde_json.specs.View.{view, items_view}
 use Rattle.serde_json.specs.declared.value.Value.{Value}
-use Rattle.json_scalar.specs.Refusal.{UnlessMemory}
+use Rattle.json_scalar.specs.Refusal.{UnlessMemory, and_then}
 use Rattle.json_scalar.specs.declared.refusal.Refusal.{Refusal}
 use Rattle.json_scalar.specs.declared.refusal.Refusal.TheVariants.{BadOperation, BadRequest, NoMemory}
 use Rattle.op_core.specs.Reading.{◌>>=◌}
@@ -13,13 +13,18 @@ use Rattle.serde_json.specs.Data.{item}
 use Rattle.doc_api.specs.declared.place.Step.{Step}
 use Rattle.line_proto.specs.Reading.{steps_from}
 use Rattle.replica_c.specs.Places.{in_a_place, place_items, place_start}
-use Rattle.replica_c.specs.Asking.{ask_by}
+use Rattle.replica_c.specs.Asking.{ask_by, some_items, vals_of}
 
 pub ask_by-many : (verb : List ℕ) (vs : List Value) → 3 ≤ length vs → ask_by verb (items_view vs) ≡ Err BadRequest
 ask_by-many verb [] h = absurd (omega arith)
 ask_by-many verb (a ∷ []) h = absurd (omega arith)
 ask_by-many verb (a ∷ b ∷ []) h = absurd (omega arith)
 ask_by-many verb (a ∷ b ∷ c ∷ vs) h = refl
+
+-- items that are some
+pub some_read : (vs : List Value) → 1 ≤ length vs → and_then (ok_or (some_items (items_view vs)) BadRequest) vals_of ≡ vals_of (items_view vs)
+some_read [] h = absurd (omega (arith, h))
+some_read (v ∷ vs) h = refl
 
 -- what a part of a place is, by how it was read
 pub part_Ok : {A : Type 0} (o : Option A) (r : Result A Refusal) (x : A) → UnlessMemory r (ok_or o BadRequest) → r ≡ Ok x → o ≡ Some x

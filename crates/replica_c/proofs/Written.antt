@@ -4,16 +4,17 @@ use Rattle.std.specs.List.{list_all}
 use Rattle.std.specs.Str.{bytes_eq}
 use Rattle.std.proofs.lemmas.Bool.{and_parts}
 use Rattle.std.proofs.lemmas.Slice.Eq.{bytes_eq-Decides}
-use Rattle.serde_json.specs.Data.{Num, Data, null, boolean, number, string, array, object, Items, no_items, item}
+use Rattle.serde_json.specs.Data.{Num, Data, null, boolean, number, unsigned, string, array, object, Items, no_items, item}
 use Rattle.serde_json.specs.Find.{as_u64, as_str, as_array}
 use Rattle.serde_json.specs.View.{items_of}
 use Rattle.json_scalar.specs.Refusal.{and_then}
+use Rattle.json_scalar.specs.Scalar.{val_data, val_of}
 use Rattle.json_scalar.specs.declared.refusal.Refusal.TheVariants.{NotJson, BadRequest, BadOperation, BadFront, NoMemory}
-use Rattle.json_scalar.proofs.Readings.{ok_step}
+use Rattle.json_scalar.proofs.Readings.{ok_step, val_of-Ok}
 use Rattle.version_vector.specs.Front.{is_ascending}
-use Rattle.op_core.specs.Reading.{pair_of, key_of_number, key_within, tagged_of, tagged_within, path_within, cursor_within, id_from, front_of_json, op_from, some_if}
+use Rattle.op_core.specs.Reading.{◌>>=◌, pair_of, key_of_number, key_within, tagged_of, tagged_within, path_within, cursor_within, id_from, front_of_json, op_from, some_if}
 use Rattle.op_core.specs.Shape.{is_entry, key_of}
-use Rattle.op_core.specs.Wire.{key_data, tagged_data, cursor_data}
+use Rattle.op_core.specs.Wire.{list_data, key_data, tagged_data, cursor_data}
 use Rattle.op_core.specs.declared.cursor.Cursor.{Cursor}
 use Rattle.op_core.specs.declared.cursor.Key.{Key}
 use Rattle.op_core.specs.declared.cursor.Key.TheVariants.{Doc, Text, Element, Head}
@@ -21,7 +22,7 @@ use Rattle.op_core.specs.declared.cursor.Tagged.{Tagged}
 use Rattle.op_core.specs.declared.cursor.Tagged.TheVariants as tagged
 use Rattle.op_core.proofs.Wires.{some_step, some_if-Some, option_map-Some, as_array-Some, as_str-Some, as_u64-Some, id_from-id_data, front_of_json-front_data, cursor_within-Some, ReadsId-from_answer, ReadsFront-from_answer}
 use Rattle.op_core.proofs.Operations.{op_from-wire, ReadsOp-from_answer}
-use Rattle.doc_api.specs.Words.{Refusal, Mutation, Assign, Insert, Delete, Add}
+use Rattle.doc_api.specs.Words.{Refusal, Val, Mutation, Assign, Insert, Delete, Add}
 use Rattle.doc_api.specs.declared.place.Place.{Place}
 use Rattle.doc_api.specs.declared.ask.Command.TheVariants.{Change, Deliver, Forget}
 use Rattle.doc_api.specs.declared.ask.Look.{Look}
@@ -34,11 +35,12 @@ use Rattle.line_proto.specs.Replies.{worded}
 use Rattle.line_proto.proofs.Found.{found_step, ok_or-Ok, if_Ok, both_hold, by_word, steps_from-Some, look_of-Some, limit_from-Some, mutation_of_verb-Ok}
 use Rattle.line_proto.proofs.Refusing.{op_from-never_memory}
 use Rattle.line_proto.proofs.Requests.{steps_from-step_data, val_of-put, int_of-of_integer}
-use Rattle.replica_c.specs.Asking.{plain_ask, ask_deletion, ask_delivery, ask_forgetting, ask_where, ask_index, ask_look, short_ask, ask_ops, ask_chains, ask_change, long_ask, ask_by, ask_items, ask_from, ask_of}
+use Rattle.replica_c.specs.Asking.{plain_ask, ask_deletion, ask_delivery, ask_forgetting, ask_where, ask_index, ask_look, short_ask, ask_ops, ask_chains, ask_inserts, ask_deletes, vals_of, vals_from, some_items, some_count, count_from, ask_change, long_ask, ask_by, ask_items, ask_from, ask_of}
 use Rattle.replica_c.specs.Places.{whole_document, place_start_number, place_start, place_items, place_from}
-use Rattle.replica_c.specs.Written.{has_id, starts_a_place, WritesStart, WritesPlace, change_ask_data, AsksFor}
+use Rattle.replica_c.specs.Written.{has_id, starts_a_place, WritesStart, WritesPlace, change_ask_data, has_some, AsksFor}
 use Rattle.replica_c.specs.declared.ask.Ask.{Ask}
-use Rattle.replica_c.specs.declared.ask.Ask.TheVariants.{Act, Read}
+use Rattle.replica_c.specs.declared.ask.Ask.TheVariants.{Act, Run, Read}
+use Rattle.replica_c.specs.declared.ask.Run.TheVariants.{Inserts, Deletes}
 
 -- ---- cursors whose texts may have any length, read as they are written
 
@@ -159,10 +161,26 @@ asks_look : (at : Data) (place : Place) (look : Look) → WritesPlace at place �
 asks_look at place Keys h = rw (place_from-of at place h) refl
 asks_look at place look h = rw (place_from-of at place h) refl
 
+vals_of-written : (vals : List Val) → list_all (λ val. is_change (Insert val)) vals ≡ true → vals_of (items_of (map val_data vals)) ≡ Ok vals
+vals_of-written [] h = refl
+vals_of-written (val ∷ vals) h =
+    let parts = and_parts (is_change (Insert val)) (list_all (λ v. is_change (Insert v)) vals) h in
+    rw (val_of-put val parts.0, vals_of-written vals parts.1) refl
+
+vals_from-written : (vals : List Val) → has_some vals ≡ true → list_all (λ val. is_change (Insert val)) vals ≡ true
+    → vals_from (list_data (map val_data vals)) ≡ Ok vals
+vals_from-written [] some h = cc
+vals_from-written (val ∷ vals) some h = vals_of-written (val ∷ vals) h
+
 pub asks_written : (d : Data) (asked : Ask) → AsksFor d asked → ask_from d ≡ Ok asked
 asks_written d (Act (Change place change)) (at, written, is, within) = ap ask_from is ∙ asks_change at place change written within
 asks_written d (Act (Deliver op)) (is, within) = ap ask_from is ∙ rw (op_from-wire op within) refl
 asks_written d (Act (Forget id)) (is, within) = ap ask_from is ∙ rw (id_from-id_data id within) refl
+asks_written d (Run (Inserts place vals)) (at, written, is, within) =
+    let parts = and_parts (has_some vals) (list_all (λ val. is_change (Insert val)) vals) within in
+    ap ask_from is ∙ rw (place_from-of at place written, vals_from-written vals parts.0 parts.1) refl
+asks_written d (Run (Deletes place count)) (at, written, is, within) =
+    ap ask_from is ∙ rw (within, place_from-of at place written) refl
 asks_written d (Read (query.Resolve place)) (at, written, is) = ap ask_from is ∙ rw (place_from-of at place written) refl
 asks_written d (Read (query.Index place)) (at, written, is) = ap ask_from is ∙ rw (place_from-of at place written) refl
 asks_written d (Read (query.Look look place)) (at, written, is) = ap ask_from is ∙ asks_look at place look written
@@ -276,10 +294,74 @@ change-Ok verb a b asked h =
     subst (AsksFor (worded verb (a ∷ b ∷ []))) same
     (a, place_from-Some a place.0 place.1, sym (unnamed_change a change.0 ∙ ap unnamed puts.0), puts.1)
 
+some_vals : (vals : List Val) (e : Data) (ds : Items) → items_of (map val_data vals) ≡ item e ds → has_some vals ≡ true
+some_vals [] e ds h = cc
+some_vals (val ∷ vals) e ds h = refl
+
+-- values that are read are written so, and within the limits
+put_of-Ok : (d : Data) (val : Val) → val_of d ≡ Ok val → is_change (Insert val) ≡ true
+put_of-Ok d val h = (mutation_of_verb-Ok (codes "insert") d (Insert val) (rw h refl) [] d).1
+
+vals_of-Ok : (ds : Items) (vals : List Val) → vals_of ds ≡ Ok vals
+    → (items_of (map val_data vals) ≡ ds) × (list_all (λ val. is_change (Insert val)) vals ≡ true)
+vals_of-Ok no_items vals h = let none : vals ≡ [] = cc in rw none (refl, refl)
+vals_of-Ok (item d ds) vals h =
+    let first = ok_step (val_of d) _ vals h in
+    let rest = ok_step (vals_of ds) _ vals first.2 in
+    let whole : vals ≡ first.0 ∷ rest.0 = cc in
+    let more = vals_of-Ok ds rest.0 rest.1 in
+    rw whole ((λ i. item (val_of-Ok d first.0 first.1 i) (more.0 i)), both_hold _ _ (put_of-Ok d first.0 first.1) more.1)
+
+vals_from-Ok : (d : Data) (vals : List Val) → vals_from d ≡ Ok vals
+    → (list_data (map val_data vals) ≡ d) × ((has_some vals && list_all (λ val. is_change (Insert val)) vals) ≡ true)
+vals_from-Ok d vals h =
+    let found = found_step (as_array d >>= some_items) BadRequest vals_of vals h in
+    let items = some_step (as_array d) some_items found.0 found.1 in
+    go items.0 found.0 items.2 (as_array-Some d items.0 items.1) (vals_of-Ok found.0 vals found.2)
+  where
+    go : (ds es : Items) → some_items ds ≡ Some es → d ≡ array ds
+        → (items_of (map val_data vals) ≡ es) × (list_all (λ val. is_change (Insert val)) vals ≡ true)
+        → (list_data (map val_data vals) ≡ d) × ((has_some vals && list_all (λ val. is_change (Insert val)) vals) ≡ true)
+    go no_items es is at read = cc
+    go (item e ds) es is at read =
+        let same : es ≡ item e ds = cc in
+        (ap array (read.0 ∙ same) ∙ sym at, both_hold _ _ (some_vals vals e ds (read.0 ∙ same)) read.1)
+
+inserts-Ok : (verb : List ℕ) (a b : Data) → verb ≡ codes "inserts" → OkWrites verb (a ∷ b ∷ []) (ask_inserts a b)
+inserts-Ok verb a b is asked h =
+    let place = found_step (place_from a) BadRequest _ asked h in
+    let vals = ok_step (vals_from b) _ asked place.2 in
+    let same : Run (Inserts place.0 vals.0) ≡ asked = cc in
+    let read = vals_from-Ok b vals.0 vals.1 in
+    subst (AsksFor (worded verb (a ∷ b ∷ []))) same
+    (a, place_from-Some a place.0 place.1, (λ i. worded (is i) (a ∷ sym read.0 i ∷ [])), read.1)
+
+count_from-Some : (d : Data) (count : ℕ) → count_from d ≡ Some count → (number (unsigned count) ≡ d) × (nat_le 1 count ≡ true)
+count_from-Some null count h = cc
+count_from-Some (boolean b) count h = cc
+count_from-Some (number m) count h =
+    let n = some_step (as_u64 m) some_count count h in
+    let made = some_if-Some _ n.0 count n.2 in
+    (ap (λ k. number (unsigned k)) (sym made.1) ∙ ap number (sym (as_u64-Some m n.0 n.1)), ap (nat_le 1) (sym made.1) ∙ made.0)
+count_from-Some (string s) count h = cc
+count_from-Some (array ds) count h = cc
+count_from-Some (object ms) count h = cc
+
+deletes-Ok : (verb : List ℕ) (a b : Data) → verb ≡ codes "deletes" → OkWrites verb (a ∷ b ∷ []) (ask_deletes a b)
+deletes-Ok verb a b is asked h =
+    let count = found_step (count_from b) BadRequest _ asked h in
+    let place = found_step (place_from a) BadRequest _ asked count.2 in
+    let same : Run (Deletes place.0 count.0) ≡ asked = cc in
+    let read = count_from-Some b count.0 count.1 in
+    subst (AsksFor (worded verb (a ∷ b ∷ []))) same
+    (a, place_from-Some a place.0 place.1, (λ i. worded (is i) (a ∷ sym read.0 i ∷ [])), read.1)
+
 long_ask-Ok : (verb : List ℕ) (a b : Data) → OkWrites verb (a ∷ b ∷ []) (long_ask verb a b)
 long_ask-Ok verb a b =
     by_word (OkWrites verb (a ∷ b ∷ [])) verb (codes "ops") _ _ (ops-Ok verb a b)
-    (by_word (OkWrites verb (a ∷ b ∷ [])) verb (codes "chains") _ _ (chains-Ok verb a b) (change-Ok verb a b))
+    (by_word (OkWrites verb (a ∷ b ∷ [])) verb (codes "chains") _ _ (chains-Ok verb a b)
+    (by_word (OkWrites verb (a ∷ b ∷ [])) verb (codes "inserts") _ _ (inserts-Ok verb a b)
+    (by_word (OkWrites verb (a ∷ b ∷ [])) verb (codes "deletes") _ _ (deletes-Ok verb a b) (change-Ok verb a b))))
 
 abbrev SomeWrites : List ℕ → Option Ask → Type 0
 SomeWrites verb o = (asked : Ask) → o ≡ Some asked → AsksFor (worded verb []) asked

@@ -1,15 +1,16 @@
 -- What a line asks of a replica: the command or the query that has this JSON, or the first cause
 -- against it. The forms are those of a session's requests without the document's name.
-use Rattle.std.specs.Prelude.{ℕ, List, codes, Option, Some, option_map, Result, Ok, Err, ok_or}
-use Rattle.std.specs.Prelude.{if◌then◌else◌}
+use Rattle.std.specs.Prelude.{ℕ, nat_le, List, [], ◌∷◌, codes, Option, Some, None, option_map}
+use Rattle.std.specs.Prelude.{Result, Ok, Err, ok_or, if◌then◌else◌}
 use Rattle.std.specs.Str.{bytes_eq}
 use Rattle.serde_json.specs.Data.{Data, Items, no_items, item}
 use Rattle.serde_json.specs.Find.{as_str, as_array}
 use Rattle.json_scalar.specs.Refusal.{and_then}
+use Rattle.json_scalar.specs.Scalar.{val_of}
 use Rattle.json_scalar.specs.declared.refusal.Refusal.TheVariants.{NotJson, BadRequest}
 use Rattle.op_core.specs.Op.{Op}
-use Rattle.op_core.specs.Reading.{some_if, id_from, op_from}
-use Rattle.doc_api.specs.Words.{Refusal, Delete}
+use Rattle.op_core.specs.Reading.{◌>>=◌, some_if, u64_of, id_from, op_from}
+use Rattle.doc_api.specs.Words.{Refusal, Val, Delete}
 use Rattle.doc_api.specs.declared.ask.Command.TheVariants.{Change, Deliver, Forget}
 use Rattle.doc_api.specs.declared.ask.Query.TheVariants as query
 use Rattle.doc_api.specs.declared.ask.State.TheVariants.{Front, Held}
@@ -17,7 +18,28 @@ use Rattle.line_proto.specs.Reading.{ascending_from, fronts_from, limit_from, li
 use Rattle.line_proto.specs.Reading.{mutation_of_verb}
 use Rattle.replica_c.specs.Places.{place_from}
 use Rattle.replica_c.specs.declared.ask.Ask.{Ask}
-use Rattle.replica_c.specs.declared.ask.Ask.TheVariants.{Act, Read}
+use Rattle.replica_c.specs.declared.ask.Ask.TheVariants.{Act, Run, Read}
+use Rattle.replica_c.specs.declared.ask.Run.TheVariants.{Inserts, Deletes}
+
+-- ---- the values of a run, and how many changes it has
+
+abbrev pub vals_of : Items → Result (List Val) Refusal
+vals_of no_items = Ok []
+vals_of (item d ds) = and_then (val_of d) (λ val. and_then (vals_of ds) (λ vals. Ok (val ∷ vals)))
+
+-- at least one
+abbrev pub some_items : Items → Option Items
+some_items no_items = None
+some_items (item d ds) = Some (item d ds)
+
+abbrev pub vals_from : Data → Result (List Val) Refusal
+vals_from d = and_then (ok_or (as_array d >>= some_items) BadRequest) vals_of
+
+abbrev pub some_count : ℕ → Option ℕ
+some_count n = some_if (nat_le 1 n) n
+
+abbrev pub count_from : Data → Option ℕ
+count_from d = u64_of d >>= some_count
 
 -- ---- by how many items come after the word
 
@@ -71,11 +93,23 @@ ask_change verb p d =
     and_then (ok_or (place_from p) BadRequest) (λ place.
     and_then (mutation_of_verb verb d) (λ change. Ok (Act (Change place change))))
 
+abbrev pub ask_inserts : Data → Data → Result Ask Refusal
+ask_inserts p d =
+    and_then (ok_or (place_from p) BadRequest) (λ place.
+    and_then (vals_from d) (λ vals. Ok (Run (Inserts place vals))))
+
+abbrev pub ask_deletes : Data → Data → Result Ask Refusal
+ask_deletes p n =
+    and_then (ok_or (count_from n) BadRequest) (λ count.
+    and_then (ok_or (place_from p) BadRequest) (λ place. Ok (Run (Deletes place count))))
+
 abbrev pub long_ask : List ℕ → Data → Data → Result Ask Refusal
 long_ask verb a b =
     if bytes_eq verb (codes "ops") then ask_ops a b
     else (if bytes_eq verb (codes "chains") then ask_chains a b
-    else ask_change verb a b)
+    else (if bytes_eq verb (codes "inserts") then ask_inserts a b
+    else (if bytes_eq verb (codes "deletes") then ask_deletes a b
+    else ask_change verb a b)))
 
 abbrev pub ask_by : List ℕ → Items → Result Ask Refusal
 ask_by verb no_items = ok_or (plain_ask verb) BadRequest

@@ -1,6 +1,7 @@
 pub mod Places
 pub mod Asking
 pub mod Written
+pub mod Runs
 pub mod Serving
 pub mod Stored
 pub mod Handles

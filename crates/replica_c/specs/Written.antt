@@ -1,6 +1,7 @@
 -- The written forms of what is asked of a replica: those of a session's requests without the
 -- document's name, where a place may start with any cursor in its written form.
-use Rattle.std.specs.Prelude.{◌≡◌, ◌⊎◌, ◌&&◌, ℕ, Bool, true, List, [], ◌∷◌, map, codes, IsTrue}
+use Rattle.std.specs.Prelude.{◌≡◌, ◌⊎◌, ◌&&◌, ℕ, nat_le, Bool, true, false, List, []}
+use Rattle.std.specs.Prelude.{◌∷◌, map, codes, IsTrue}
 use Rattle.std.specs.List.{list_all}
 use Rattle.serde_json.specs.Data.{Data, number, unsigned}
 use Rattle.serde_json.specs.Find.{of_integer}
@@ -11,7 +12,7 @@ use Rattle.op_core.specs.Wire.{list_data, id_data, front_data, cursor_data, wire
 use Rattle.op_core.specs.declared.cursor.Cursor.{Cursor}
 use Rattle.op_core.specs.declared.cursor.Key.{Key}
 use Rattle.op_core.specs.declared.cursor.Key.TheVariants.{Element}
-use Rattle.doc_api.specs.Words.{Mutation, Assign, Insert, Delete, Add}
+use Rattle.doc_api.specs.Words.{Val, Mutation, Assign, Insert, Delete, Add}
 use Rattle.doc_api.specs.declared.place.Place.{Place}
 use Rattle.doc_api.specs.declared.ask.Command.TheVariants.{Change, Deliver, Forget}
 use Rattle.doc_api.specs.declared.ask.Query.TheVariants as query
@@ -20,7 +21,8 @@ use Rattle.line_proto.specs.Replies.{worded}
 use Rattle.line_proto.specs.Written.{step_data, look_word, is_change, is_limit}
 use Rattle.replica_c.specs.Places.{whole_document}
 use Rattle.replica_c.specs.declared.ask.Ask.{Ask}
-use Rattle.replica_c.specs.declared.ask.Ask.TheVariants.{Act, Read}
+use Rattle.replica_c.specs.declared.ask.Ask.TheVariants.{Act, Run, Read}
+use Rattle.replica_c.specs.declared.ask.Run.TheVariants.{Inserts, Deletes}
 
 -- ---- places
 
@@ -50,12 +52,23 @@ change_ask_data place (Insert val) = worded (codes "insert") (place ∷ val_data
 change_ask_data place Delete = worded (codes "delete") (place ∷ [])
 change_ask_data place (Add n) = worded (codes "add") (place ∷ number (of_integer n) ∷ [])
 
+abbrev pub has_some : List Val → Bool
+has_some [] = false
+has_some (val ∷ vals) = true
+
 -- this JSON asks this, which is within the limits
 abbrev pub AsksFor : Data → Ask → Type 0
 AsksFor d (Act (Change place change)) =
     (at : Data) × WritesPlace at place × (d ≡ change_ask_data at change) × IsTrue (is_change change)
 AsksFor d (Act (Deliver op)) = (d ≡ worded (codes "deliver") (wire op ∷ [])) × IsTrue (is_shaped op)
 AsksFor d (Act (Forget id)) = (d ≡ worded (codes "forget") (id_data id ∷ [])) × IsTrue (is_id id)
+AsksFor d (Run (Inserts place vals)) =
+    (at : Data) × WritesPlace at place
+    × (d ≡ worded (codes "inserts") (at ∷ list_data (map val_data vals) ∷ []))
+    × IsTrue (has_some vals && list_all (λ val. is_change (Insert val)) vals)
+AsksFor d (Run (Deletes place count)) =
+    (at : Data) × WritesPlace at place
+    × (d ≡ worded (codes "deletes") (at ∷ number (unsigned count) ∷ [])) × IsTrue (nat_le 1 count)
 AsksFor d (Read (query.Resolve place)) =
     (at : Data) × WritesPlace at place × (d ≡ worded (codes "cursor") (at ∷ []))
 AsksFor d (Read (query.Index place)) =

@@ -15,9 +15,11 @@ mod ask;
 mod fault;
 mod handle;
 mod loose;
+mod made;
 mod open;
 mod place;
 mod read;
+mod run;
 
 use ask::Ask;
 pub use fault::Fault;

@@ -17,12 +17,15 @@ ghost use Rattle.doc_rules.specs.Replica.{find_id};
 ghost use Rattle.json_scalar.specs.Refusal.{UnlessMemory};
 ghost use Rattle.replica_core.specs.Misfits.{IsMisfitOf};
 ghost use Rattle.replica_c.specs.Asking.{ask_of};
-ghost use Rattle.replica_c.specs.Serving.{TellsLine, IsTold, no_counts, op_line, own_after, own_by, own_of};
+ghost use Rattle.replica_c.specs.Runs.{DoesRun, MakesNone};
+ghost use Rattle.replica_c.specs.Serving.{TellsLine, IsTold, applied_ids, listed_id, no_counts};
+ghost use Rattle.replica_c.specs.Serving.{op_line, op_lines, own_ids, told_text};
 ghost use Rattle.replica_c.specs.Stored.{AreWritten, IsUnfit, IsUnopened, IsUnread, OpensAs};
-ghost use Rattle.replica_c.specs.declared.ask.Ask.TheVariants.{Act};
 
-use crate::ask::Ask;
+use crate::ask::{Ask, Run};
+use crate::made::Outcome;
 use crate::read::read_operation;
+use crate::run::make_run;
 use doc_api::{Command, Counts, Place, Query, Reply};
 use json_scalar::Refusal;
 use json_text::{AsJson, JsonText};
@@ -94,32 +97,48 @@ fn op_text(words: JsonText, op: &Operation) -> Result<Vec<u8>, Refusal>
     }
 }
 
-// Appends an operation's line.
-fn put_op(words: JsonText, op: &Operation, text: &mut Vec<u8>) -> Result<(), Refusal>
+// Appends an operation's line. Its own room is returned.
+fn put_op(words: JsonText, op: &Operation, text: &mut Vec<u8>) -> Result<Vec<u8>, Refusal>
     requires { words ≡ [] }
     ensures { OnOk result (text.new.items ≡ text.old.items ++ op_line (Some op.now)) }
 {
     let line = op_text(words, op)?;
     text.extend_from_slice(line.as_slice())?;
     text.push(b'\n')?;
-    Ok(())
+    Ok(line)
 }
 
 // Appends the line of the operation of this id, if there is one.
-fn put_logged(words: JsonText, log: &OpLog, id: Id, text: &mut Vec<u8>) -> Result<(), Refusal>
+fn put_logged(
+    words: JsonText,
+    log: &OpLog,
+    id: Id,
+    text: &mut Vec<u8>,
+) -> Result<Vec<u8>, Refusal>
     requires { words ≡ [] }
     ensures { OnOk result (text.new.items ≡ text.old.items
         ++ op_line (find_id log.now.operations id)) }
 {
     match log.get(id) {
         Some(op) => put_op(words, op, text),
-        None => Ok(()),
+        None => Ok(words.into_bytes()),
     }
+}
+
+// Appends the lines of the operations of these ids, in order.
+fn put_all(words: JsonText, log: &OpLog, ids: &[Id], text: &mut Vec<u8>) -> Result<(), Refusal>
+    ensures { OnOk result (text.new.items ≡ text.old.items ++ op_lines log.now.operations ids.now) }
+{
+    let mut room = words.into_bytes();
+    for id in ids {
+        room = put_logged(JsonText::in_room_of(room), log, *id, text)?;
+    }
+    Ok(())
 }
 
 // The id of the operation that was applied.
 fn applied_id(reply: &Reply) -> Option<Id>
-    ensures { (log : List Op) → own_after reply.now log ≡ own_by result log }
+    ensures { applied_ids reply.now ≡ listed_id result }
 {
     match reply {
         Reply::Applied { id, .. } => Some(*id),
@@ -157,6 +176,7 @@ impl OpenReplica {
     {
         match asked {
             Ok(Ask::Act(command)) => self.act(command),
+            Ok(Ask::Run(run)) => self.run(run),
             Ok(Ask::Read(query)) => self.look(query),
             Err(cause) => self.tell(Reply::Refused(cause)),
         }
@@ -164,8 +184,7 @@ impl OpenReplica {
 
     fn act(&mut self, command: Command) -> bool
         ensures { (reply : Reply) × Event self.old.replica command reply self.new.replica
-            × IsTold result (reply_line (Answered reply)
-            ++ own_of (Act command) reply self.new.replica.log)
+            × IsTold result (told_text reply (own_ids command reply) self.new.replica.log)
             self.new.text.items }
     {
         match command {
@@ -185,8 +204,8 @@ impl OpenReplica {
     fn change(&mut self, place: Place, mutation: Mutation) -> bool
         ensures { (reply : Reply)
             × Event self.old.replica (command.Change place mutation) reply self.new.replica
-            × IsTold result (reply_line (Answered reply)
-            ++ own_after reply self.new.replica.log) self.new.text.items }
+            × IsTold result (told_text reply (applied_ids reply) self.new.replica.log)
+            self.new.text.items }
     {
         let Ok(words) = JsonText::with_room(self.alloc, ROOM) else {
             return self.tell(Reply::Refused(Refusal::NoMemory));
@@ -196,20 +215,40 @@ impl OpenReplica {
     }
 
     fn tell_change(&mut self, reply: Reply, words: JsonText) -> bool
-        requires { words ≡ [] }
         ensures replica { self.new.replica ≡ self.old.replica }
-        ensures told { IsTold result (reply_line (Answered reply)
-            ++ own_after reply self.old.replica.log)
+        ensures told { IsTold result (told_text reply (applied_ids reply) self.old.replica.log)
             self.new.text.items }
     {
-        let applied = applied_id(&reply);
+        match applied_id(&reply) {
+            Some(id) => self.tell_made(reply, &[id], words),
+            None => self.tell(reply),
+        }
+    }
+
+    // Room for an operation's line is made before the changes, and serves each.
+    fn run(&mut self, run: Run) -> bool
+        ensures { (reply : Reply) × (ids : List Id)
+            × (DoesRun self.old.replica run reply ids self.new.replica
+            ⊎ MakesNone self.old.replica NoMemory reply ids self.new.replica)
+            × IsTold result (told_text reply ids self.new.replica.log) self.new.text.items }
+    {
+        let Ok(words) = JsonText::with_room(self.alloc, ROOM) else {
+            return self.tell(Reply::Refused(Refusal::NoMemory));
+        };
+        let Outcome { reply, ids } = make_run(self.alloc, &mut self.replica, run);
+        self.tell_made(reply, ids.as_slice(), words)
+    }
+
+    // Tells a reply, and the operations of these ids.
+    fn tell_made(&mut self, reply: Reply, ids: &[Id], words: JsonText) -> bool
+        ensures replica { self.new.replica ≡ self.old.replica }
+        ensures told { IsTold result (told_text reply ids.now self.old.replica.log)
+            self.new.text.items }
+    {
         if !self.tell(reply) {
             return false;
         }
-        match applied {
-            Some(id) => put_logged(words, self.replica.log(), id, &mut self.text).is_ok(),
-            None => true,
-        }
+        put_all(words, self.replica.log(), ids, &mut self.text).is_ok()
     }
 
     // Tells the answer to a command, or a refusal.

@@ -1,22 +1,23 @@
 //! How a line is read.
-ghost use Rattle.std.specs.Prelude.{◌≡◌, ◌≢◌, ℕ, List, Some, None, Err};
+ghost use Rattle.std.specs.Prelude.{◌≡◌, ◌≢◌, ℕ, List, Some, None, Err, ok_or};
 ghost use Rattle.serde_json.specs.Data.{Data};
 ghost use Rattle.serde_json.specs.View.{view, items_view};
-ghost use Rattle.json_scalar.specs.Refusal.{UnlessMemory};
-ghost use Rattle.json_scalar.specs.declared.refusal.Refusal.TheVariants.{NotJson, NoMemory};
+ghost use Rattle.json_scalar.specs.Refusal.{UnlessMemory, and_then};
+ghost use Rattle.json_scalar.specs.declared.refusal.Refusal.TheVariants.{BadRequest, NotJson, NoMemory};
 ghost use Rattle.op_core.specs.Written.{ReadsOp};
 ghost use Rattle.line_proto.specs.Reading.{line_data};
 ghost use Rattle.replica_c.specs.Asking.{plain_ask, ask_look, ask_where, ask_index};
 ghost use Rattle.replica_c.specs.Asking.{ask_deletion, ask_delivery};
 ghost use Rattle.replica_c.specs.Asking.{ask_forgetting, short_ask, ask_ops, ask_chains, ask_change};
-ghost use Rattle.replica_c.specs.Asking.{long_ask};
+ghost use Rattle.replica_c.specs.Asking.{ask_inserts, ask_deletes, vals_from, vals_of, some_items};
+ghost use Rattle.replica_c.specs.Asking.{count_from, some_count, long_ask};
 ghost use Rattle.replica_c.specs.Asking.{ask_by};
 ghost use Rattle.replica_c.specs.Asking.{ask_items, ask_from, ask_of, op_of_line};
 
-use crate::ask::Ask;
+use crate::ask::{Ask, Run, Vals};
 use crate::place::read_place;
 use doc_api::{Command, Query, State};
-use json_scalar::Refusal;
+use json_scalar::{Refusal, val_from_json};
 use line_proto::{look_of, read_ascending, read_fronts, read_json, read_limit, read_mutation};
 use op_core::{Mutation, Operation, read_id, read_wire};
 use serde_json::Value;
@@ -151,6 +152,8 @@ fn long_ask(alloc: Global, verb: &str, first: &Value, second: &Value) -> Result<
     match verb {
         "ops" => read_ops(alloc, first, second),
         "chains" => read_chains(alloc, first, second),
+        "inserts" => read_inserts(alloc, first, second),
+        "deletes" => read_deletes(alloc, first, second),
         _ => read_change(alloc, verb, first, second),
     }
 }
@@ -169,6 +172,64 @@ fn read_chains(alloc: Global, after: &Value, front: &Value) -> Result<Ask, Refus
 {
     let (after, front) = read_fronts(alloc, after, front)?;
     Ok(Ask::Read(Query::Chains(after, front)))
+}
+
+fn read_inserts(alloc: Global, place: &Value, vals: &Value) -> Result<Ask, Refusal>
+    ensures { UnlessMemory result (ask_inserts (view place.now) (view vals.now)) }
+{
+    let place = read_place(alloc, place)?;
+    Ok(Ask::Run(Run::Inserts(place, read_vals(alloc, vals)?)))
+}
+
+fn read_deletes(alloc: Global, place: &Value, count: &Value) -> Result<Ask, Refusal>
+    ensures { UnlessMemory result (ask_deletes (view place.now) (view count.now)) }
+{
+    let Some(count) = read_count(count) else {
+        return Err(Refusal::BadRequest);
+    };
+    Ok(Ask::Run(Run::Deletes(read_place(alloc, place)?, count)))
+}
+
+fn read_count(count: &Value) -> Option<u64>
+    ensures { result ≡ count_from (view count.now) }
+{
+    some_count(count.as_u64()?)
+}
+
+fn some_count(count: u64) -> Option<u64>
+    ensures { result ≡ some_count count }
+{
+    if 1 <= count { Some(count) } else { None }
+}
+
+// The values of a run: at least one.
+fn read_vals(alloc: Global, value: &Value) -> Result<Vals, Refusal>
+    ensures { UnlessMemory result (vals_from (view value.now)) }
+{
+    let Some(items) = value.as_array() else {
+        return Err(Refusal::BadRequest);
+    };
+    read_some(alloc, items.as_slice())
+}
+
+fn read_some(alloc: Global, items: &[Value]) -> Result<Vals, Refusal>
+    ensures { UnlessMemory result
+        (and_then (ok_or (some_items (items_view items.now)) BadRequest) vals_of) }
+{
+    match items {
+        [] => Err(Refusal::BadRequest),
+        [_, ..] => read_each(alloc, items),
+    }
+}
+
+fn read_each(alloc: Global, items: &[Value]) -> Result<Vals, Refusal>
+    ensures { UnlessMemory result (vals_of (items_view items.now)) }
+{
+    let mut entries = Vec::with_capacity(alloc, items.len())?;
+    for item in items {
+        entries.push(val_from_json(alloc, item)?)?;
+    }
+    Ok(Vals::from(entries))
 }
 
 fn read_change(alloc: Global, verb: &str, place: &Value, value: &Value) -> Result<Ask, Refusal>
