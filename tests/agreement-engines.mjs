@@ -16,7 +16,7 @@ for await (const line of createInterface({ input: createReadStream(jobs) })) {
   const told = requests.map((request) => {
     const asked = parse(request);
     const { reply, line: made } = replica.ask(asked);
-    const isChange = ["assign", "insert", "delete", "add"].includes(asked[0]);
+    const isChange = ["assign", "insert", "delete", "add", "inserts", "deletes"].includes(asked[0]);
     return [print(reply), isChange && made ? made : null];
   });
   replica.free();

@@ -200,9 +200,9 @@ class Replica:
                 self._room = ctypes.create_string_buffer(ROOM)  # a large reading doesn't stay
         if not text:
             raise MemoryError("the request was answered, but there was no memory for the text of its answer")
-        reply, *made = text.decode().rstrip("\n").split("\n")
-        self._made += made
-        return reply.encode(), "\n".join(made) or None
+        reply, *made = text.split(b"\n")[:-1]
+        self._made.extend(it.decode() for it in made)
+        return reply, b"\n".join(made).decode() or None
 
     @property
     def is_doubtful(self) -> bool:
