@@ -109,12 +109,7 @@ fn put_op(words: JsonText, op: &Operation, text: &mut Vec<u8>) -> Result<Vec<u8>
 }
 
 // Appends the line of the operation of this id, if there is one.
-fn put_logged(
-    words: JsonText,
-    log: &OpLog,
-    id: Id,
-    text: &mut Vec<u8>,
-) -> Result<Vec<u8>, Refusal>
+fn put_logged(words: JsonText, log: &OpLog, id: Id, text: &mut Vec<u8>) -> Result<Vec<u8>, Refusal>
     requires { words ≡ [] }
     ensures { OnOk result (text.new.items ≡ text.old.items
         ++ op_line (find_id log.now.operations id)) }
