@@ -6,9 +6,6 @@ export class Mirror implements Source {
      *  @param {ReadText} [readText] */
     constructor(read: Read, place: import("./operations.mjs").Cursor, readText?: import("./followers.mjs").ReadText | undefined);
     get length(): number;
-    /** How many elements come up to this one, itself included. 0 if it isn't in the list.
-     *  @param {Id} id */
-    indexOf(id: import("./operations.mjs").Id): number;
     end(): void;
     /** @param {Id} id */
     has(id: import("./operations.mjs").Id): boolean;

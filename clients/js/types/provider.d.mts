@@ -127,7 +127,7 @@ export class Provider {
         fetched: number;
     } | undefined;
     /** What a person should know, by kind, until it is over. */
-    get problems(): Map<"unread" | "renewed" | "remade" | "refused" | "store" | "memory" | "server" | "listener", Problem>;
+    get problems(): Map<"unread" | "renewed" | "refused" | "remade" | "store" | "memory" | "server" | "listener", Problem>;
     /** Calls a function with each event, one at a time, until what this returns is called.
      *  @param {(event: Event) => void} heard
      *  @returns {() => void} */

@@ -50,6 +50,7 @@ export class Conflict {
 }
 export function integer(text: string): number | bigint;
 export function bare(value: any): any;
+export function isBare(value: any): boolean;
 export function isGiven(value: any): boolean;
 export function byteLength(text: string): number;
 export function isText(value: any): value is string;
