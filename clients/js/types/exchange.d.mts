@@ -108,6 +108,10 @@ export type Followed = {
      * Whether that is all it has; else the next exchange asks for it.
      */
     isKnown: boolean;
+    /**
+     * Whether it said something that wasn't taken, since it was asked last.
+     */
+    isMissed: boolean;
 };
 /**
  * What a replica gives to its exchange.
