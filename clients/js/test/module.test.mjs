@@ -11,7 +11,7 @@ import { Worker } from "node:worker_threads";
 import { Broken, Refused, Replica, load, openReplica, parse } from "../index.mjs";
 import { opener } from "../jcrdt.mjs";
 import { LastingEngine } from "../lasting.mjs";
-import { folder } from "./support.mjs";
+import { folder, tooLong } from "./support.mjs";
 
 const PACKAGE = fileURLToPath(new URL("..", import.meta.url));
 const places = ["../jcrdt.wasm", "../../../release/jcrdt.wasm"].map((it) => new URL(it, import.meta.url));
@@ -130,7 +130,7 @@ function nearTheEnd(call, after) {
 
 const isBroken = (/** @type {unknown} */ error) => error instanceof Broken;
 
-test("an exhausted stack costs the call that met it, and no other", async (context) => {
+test("an exhausted stack costs the call that met it, and no other", { skip: tooLong }, async (context) => {
   await load({ module: MODULE });
   const [me, other] = [await openReplica("ada", "d"), await openReplica("bob", "d")];
   let [count, broken, refused, done] = [0, 0, 0, 0];

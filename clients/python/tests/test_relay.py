@@ -16,7 +16,7 @@ from typing import Any, Callable, Dict, Iterator, List, Union
 
 import pytest
 
-from conftest import (DURABLE, IMPATIENT, PACKAGE, SECONDS, TOP, Older, Server, copied, put_back, takes_silent_ones,
+from conftest import (DURABLE, IMPATIENT, PACKAGE, SECONDS, TOP, Older, Server, copied, put_back, takes_long, takes_silent_ones,
                       wait_until as wait_for)
 
 from jcrdt import operation_log, pull, wire
@@ -268,6 +268,7 @@ def test_bad_replies_to_deliveries(serve: Serve, relay: Callable[..., Relay], re
     assert kept.end() == 1
 
 
+@takes_long
 def test_a_line_without_an_end(serve: Serve, relay: Callable[..., Relay]) -> None:
     """Bytes without a newline, and a line that goes on for ever within what is shown, fill no memory."""
     def flood(connection: socket.socket) -> None:
@@ -294,6 +295,7 @@ def test_a_line_without_an_end(serve: Serve, relay: Callable[..., Relay]) -> Non
     kept.end()
 
 
+@takes_long
 def test_a_server_that_freezes_in_mid_pull(serve: Serve, relay: Callable[..., Relay]) -> None:
     """The others go on while it is frozen, also with bursts of more than a page."""
     servers = [serve("d", name=it) for it in ("alice", "bob", "carol")]
