@@ -20,6 +20,7 @@ from conftest import (DURABLE, IMPATIENT, PACKAGE, SECONDS, TOP, Older, Server, 
                       wait_until as wait_for)
 
 from jcrdt import operation_log, pull, wire
+from jcrdt import relay as relay_module
 
 Serve = Callable[..., Server]
 # What a peer answers to a word: bytes of a line, or what writes to the connection.
@@ -415,6 +416,22 @@ def test_contested_while_a_page_is_under_way() -> None:
         asyncio.run(pull_twice())
         assert {it.text for it in log.operations} >= {wire.encoded(it) for it in real}
         assert alice.asked < 40
+
+
+def test_what_was_no_agreement_any_more_is_said_once_it_is_one_again(monkeypatch: pytest.MonkeyPatch) -> None:
+    """What all show was compared, and meanwhile a stream was cut. Behind it the fronts are as before."""
+    said: List[str] = []
+    kept, places = relay_module.Relay([], ["d"], 0.0, print, said.append), [object()]
+    found = iter([places, [], [], places, places])
+
+    async def alike(_: object) -> bool:
+        return True
+
+    monkeypatch.setattr(kept, "_agreeing", lambda _: next(found))
+    monkeypatch.setattr(kept, "_alike_now", alike)
+    with pytest.raises(RuntimeError, match="StopIteration"):
+        asyncio.run(kept._look(kept.logs[0]))
+    assert said == ["d: all 1 agree"]
 
 
 class Answering:
