@@ -610,7 +610,7 @@ for (const [title, engine] of engines) {
     }
     const bad = Array.from({ length: 64 }, (_, at) => ["op", [7, "p"], [["q", 6]], [[], 0], ["assign", "z".repeat(4096) + at]]);
     let count = 0;
-    const flood = fakeServer(([word]) => word === "ops" && count++ < 100
+    const flood = fakeServer(([word]) => word === "ops" && count++ < (tooLong ? 20 : 100)
       ? ["ops", bad.map((op) => ["op", [count + 7, "p"], [["q", 6]], op[3], op[4]])] : undefined);
     ok((await replicaOf("me").sync(flood.answer)).refused.length <= 1000);
   });

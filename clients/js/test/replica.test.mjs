@@ -9,7 +9,7 @@ import { RandomSession } from "./random_sessions.mjs";
 import { answered, cpuOf, slowness, tooLong } from "./support.mjs";
 
 const SECONDS = Number(process.env.SECONDS ?? (tooLong ? 0.3 : 2)); // of random sessions, for each engine
-const AT_ONCE = 8; // documents of one `run`
+const AT_ONCE = tooLong ? 2 : 8; // documents of one `run`
 
 for (const [title, engine] of engines) {
   /** @param {string} name */
