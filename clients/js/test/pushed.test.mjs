@@ -114,7 +114,7 @@ const type = ({ replica }, text) => replica.insert([0, "t", 0], text);
 const allHave = (providers, number) => until("all have it",
   () => providers.every(({ replica }) => replica.count === number));
 
-for (const number of [3, 20]) {
+for (const number of tooLong ? [3] : [3, 20]) {
   test(`${number} providers: a key is one request, and a push for each`, async () => {
     const { proxy } = await all();
     const providers = await Promise.all(Array.from({ length: number }, () => opened(proxy)));
