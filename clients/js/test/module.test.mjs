@@ -118,14 +118,25 @@ function nearTheEnd(call, after) {
       return error;
     }
   };
-  let [good, bad] = [0, 100];
-  while (!errorAt(bad)) bad *= 2;
-  while (bad - good > 10) {
-    const depth = Math.floor((good + bad) / 2);
-    if (errorAt(depth)) bad = depth;
-    else good = depth;
+  /** A depth at which the call is done. Somewhat deeper it isn't. */
+  const lastGood = () => {
+    let [good, bad] = [0, 100];
+    while (!errorAt(bad)) bad *= 2;
+    while (bad - good > 10) {
+      const depth = Math.floor((good + bad) / 2);
+      if (errorAt(depth)) bad = depth;
+      else good = depth;
+    }
+    return good;
+  };
+  let [good, times] = [lastGood(), 0];
+  for (let depth = good + 500; depth > good - 20; depth -= 2) {
+    const error = errorAt(depth);
+    after(error);
+    if (error || depth < good + 100 || times++ > 9) continue;
+    good = lastGood(); // its frames are smaller since the engine of JavaScript has optimized it
+    depth = good + 500;
   }
-  for (let depth = good + 500; depth > good - 20; depth -= 2) after(errorAt(depth));
 }
 
 const isBroken = (/** @type {unknown} */ error) => error instanceof Broken;
