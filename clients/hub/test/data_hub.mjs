@@ -1,6 +1,6 @@
 /* What the tests of a hub that runs its servers share: such a hub, its folder, its commands, its servers. */
 
-import { readdirSync, readFileSync } from "node:fs";
+import { existsSync, readdirSync, readFileSync } from "node:fs";
 import { join } from "node:path";
 import { atPort } from "../../js/test/chromium.mjs";
 import { HUB, launch, PROGRAM, ROOM, start } from "./support.mjs";
@@ -33,8 +33,17 @@ export async function command(folder, ...words) {
 }
 
 /** The processes of servers whose file is below a folder, by their numbers. */
-export function serversOf(folder) {
-  return readdirSync("/proc").filter((it) => /^\d+$/.test(it)).flatMap((id) => {
+export const serversOf = (folder) => serversAmong(readdirSync("/proc").filter((it) => /^\d+$/.test(it)), folder);
+
+/** Those of them that a hub has started and that haven't ended. It reads far less than all of /proc. */
+export function serversStartedBy({ pid }, folder) {
+  const children = `/proc/${pid}/task/${pid}/children`; // not every kernel has it
+  return existsSync(children) ? serversAmong(readFileSync(children, "utf8").match(/\d+/g) ?? [], folder) : serversOf(folder);
+}
+
+/** @param {string[]} ids */
+function serversAmong(ids, folder) {
+  return ids.flatMap((id) => {
     try {
       const words = readFileSync(`/proc/${id}/cmdline`, "utf8").split("\0");
       const isEnded = / Z /.test(readFileSync(`/proc/${id}/stat`, "utf8").replace(/.*\)/s, ")"));

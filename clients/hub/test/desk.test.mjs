@@ -9,6 +9,7 @@ import { fileURLToPath } from "node:url";
 import { promisify } from "node:util";
 import { Browser, missing } from "../../js/test/chromium.mjs";
 import { memoryStore, Provider } from "../../js/provider.mjs";
+import { tooLong } from "../../js/test/support.mjs";
 import { Refused } from "../../js/wire.mjs";
 import { command, freshFolder, startDataHub } from "./data_hub.mjs";
 import { atEnd, joinLines, kill, PROGRAM, Raw, suite, until } from "./support.mjs";
@@ -22,7 +23,7 @@ const backup = (...words) => promisify(execFile)(BACKUP, words, { env: { ...proc
 suite("what who runs it does", { concurrency: true }, () => {
   /** Does the same while a hub runs, and where none does. */
   for (const isRunning of [true, false]) {
-    test(`list, create, rename, delete, restore, export: ${isRunning ? "by the hub" : "without one"}`, async () => {
+    test(`list, create, rename, delete, restore, export: ${isRunning ? "by the hub" : "without one"}`, { skip: !isRunning && tooLong }, async () => {
       const folder = freshFolder();
       const hub = await startDataHub(folder);
       const client = await joinLines(hub.lines, "trip");
@@ -167,7 +168,7 @@ suite("what who runs it does", { concurrency: true }, () => {
     deepEqual((await command(copy, "list")).lines.map((it) => JSON.parse(it).name), ["good"]);
   });
 
-  test("the page shows who runs it what there is", { skip: missing() || false }, async () => {
+  test("the page shows who runs it what there is", { skip: missing() || tooLong }, async () => {
     const hub = await startDataHub();
     const client = await joinLines(hub.lines, "trip", "plans");
     await client.add("trip", [0, "n"], 1);

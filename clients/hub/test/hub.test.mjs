@@ -5,9 +5,11 @@ import http from "node:http";
 import net from "node:net";
 import { before, test } from "node:test";
 import { Away, freshName, openReplica } from "../../js/index.mjs";
+import { tooLong } from "../../js/test/support.mjs";
 import { hasServer, joinLines, joinWeb, kill, pause, startHub, startServer, suite, until, within } from "./support.mjs";
 
 const DOCUMENTS = ["d", "e"];
+const [STAYING, COMING] = tooLong ? [100, 200] : [300, 1000]; // clients
 let server, hub;
 const join = (...documents) => joinLines(hub.lines, ...documents);
 const refusal = (number, name) => ({ number, name });
@@ -91,9 +93,9 @@ suite("the hub", { concurrency: false }, () => {
     other.end();
   });
 
-  test("300 clients are notified, while 1,000 come and go", async (context) => {
+  test(`${STAYING} clients are notified, while ${COMING} come and go`, async (context) => {
     const joinEither = (_, at) => (at % 3 ? join() : joinWeb(hub.page));
-    const lasting = await Promise.all(Array.from({ length: 300 }, joinEither));
+    const lasting = await Promise.all(Array.from({ length: STAYING }, joinEither));
     let pushes = [];
     const sum = (front) => [...front.values()].reduce((a, b) => a + b, 0);
     await Promise.all(lasting.map(async (client) => {
@@ -101,34 +103,34 @@ suite("the hub", { concurrency: false }, () => {
       await client.let("d", "caret", [0, "list", 1]);
       await client.watch("d", (front) => pushes.push([performance.now(), sum(front)]));
     }));
-    await until("each has the front", () => pushes.length >= 300);
+    await until("each has the front", () => pushes.length >= STAYING);
     const waits = [];
     for (let round = 0; round < 10; round++) {
       const front = sum(await lasting[0].front("d"));
       pushes = [];
       const from = performance.now();
       await lasting[round].insert("d", ["caret"], round);
-      await until("all are notified", () => pushes.filter(([, has]) => has > front).length === 300);
+      await until("all are notified", () => pushes.filter(([, has]) => has > front).length === STAYING);
       waits.push(...pushes.filter(([, has]) => has > front).map(([at]) => at - from));
     }
     waits.sort((a, b) => a - b);
     const [median, worst] = [waits[waits.length >> 1], waits.at(-1)].map((ms) => ms.toFixed(1));
-    context.diagnostic(`300 clients notified of a change: median ${median} ms, worst ${worst} ms`);
-    for (let batch = 0; batch < 20; batch++) {
+    context.diagnostic(`${STAYING} clients notified of a change: median ${median} ms, worst ${worst} ms`);
+    for (let batch = 0; batch < COMING / 50; batch++) {
       await Promise.all(Array.from({ length: 50 }, async (_, at) => {
         const client = await join("d");
         await client.add("d", [0, "visits"], 1);
         await (at % 2 ? client.quit() : client.end());
       }));
     }
-    equal(await lasting[0].sum("d", [0, "visits"]), 1000);
+    equal(await lasting[0].sum("d", [0, "visits"]), COMING);
     // A change that somebody makes at the server itself.
     const direct = await joinLines(server.address);
     await direct.open("d");
     const before = sum(await direct.front("d"));
     pushes = [];
     await direct.assign("d", [0, "k"], "direct");
-    await until("all are notified", () => pushes.filter(([, has]) => has > before).length >= 300);
+    await until("all are notified", () => pushes.filter(([, has]) => has > before).length >= STAYING);
     lasting.forEach((client) => client.end());
     direct.end();
   });

@@ -8,6 +8,7 @@ import {
   atEnd, hubWithin, joinLines, pause, Raw, startHub, startServer, suite, until, webSockets, within,
 } from "./support.mjs";
 import { TestClock } from "../../js/test/clock.mjs";
+import { tooLong } from "../../js/test/support.mjs";
 
 /** A connection that sends some bytes, with how long it lives. */
 function held(address, text = "") {
@@ -89,7 +90,7 @@ suite("limits", { concurrency: false }, () => {
     ada.end();
   });
 
-  test("a reply beyond what a text can have is refused, in little memory", async () => {
+  test("a reply beyond what a text can have is refused, in little memory", { skip: tooLong }, async () => {
     const pieces = 2700; // of 200,000 bytes: 540 MB
     const replies = { version: '["version",2]', open: '["opened",1]', sum: '["sum","0"]' };
     const fake = net.createServer((socket) => {
@@ -232,7 +233,7 @@ suite("limits", { concurrency: false }, () => {
     equal(headers.get("x-content-type-options"), "nosniff");
   });
 
-  test("what many don't read has a limit of memory", async () => {
+  test("what many don't read has a limit of memory", { skip: tooLong }, async () => {
     const server = await startServer(["d"]);
     const notes = [];
     const hub = await hubWithin({

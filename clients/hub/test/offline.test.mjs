@@ -5,6 +5,7 @@ import { deepEqual, equal, ok } from "node:assert/strict";
 import node from "node:test";
 import { Browser, missing, until } from "../../js/test/chromium.mjs";
 import { end, startHub, startServer } from "../../js/test/serving.mjs";
+import { tooLong } from "../../js/test/support.mjs";
 import { connected } from "../../js/session.mjs";
 
 const ONLINE = `["ada", "bob"].every((side) =>
@@ -12,7 +13,7 @@ const ONLINE = `["ada", "bob"].every((side) =>
 const COPIED = `caches.open("jcrdt").then((it) => it.keys()).then((all) =>
   all.some(({ url }) => url.endsWith("/jcrdt.wasm")) && navigator.serviceWorker.controller !== null)`;
 const skip = missing() || false;
-const test = (name, work) => node(name, { timeout: 900_000, skip }, work);
+const test = (name, work, why = skip) => node(name, { timeout: 900_000, skip: why }, work);
 
 const textOf = async (tab, side) => (await tab.textOf(`#${side} .text`))[0];
 const nameOf = (tab) => tab.evaluate(`document.querySelector("#ada h2").title`);
@@ -83,4 +84,4 @@ test("a hub that doesn't answer: the page opens from its copies", async () => {
   } finally {
     await browser.close();
   }
-});
+}, skip || tooLong);

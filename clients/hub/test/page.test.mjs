@@ -12,6 +12,7 @@ import node from "node:test";
 import { networkInterfaces } from "node:os";
 import { Browser, missing, pause, until } from "../../js/test/chromium.mjs";
 import { end, room, startHub, startServer } from "../../js/test/serving.mjs";
+import { tooLong } from "../../js/test/support.mjs";
 import { Provider } from "../../js/provider.mjs";
 import { connected } from "../../js/session.mjs";
 
@@ -21,6 +22,7 @@ const ONLINE = `["ada", "bob"].every((side) =>
 const STATES = (word) => `[...document.querySelectorAll(".state")].every((it) =>
   it.textContent.startsWith("offline since") && it.textContent.includes("${word}"))`;
 const skip = missing() || false;
+const long = skip || tooLong;
 const test = (name, work, why = skip, seconds = 600) =>
   node(name, { timeout: seconds * 1000, skip: why }, async (context) => {
     try {
@@ -243,7 +245,7 @@ test("what is deleted by another while it is typed into stays, and can be added 
   await same(tab, "it is gone", ".item", ["tea", "eggs (12)"]);
   equal(await tab.focused(), "delete tea");
   deepEqual(tab.faults, []);
-});
+}, long);
 
 test("a refused edit is said in words beside its field, and what was typed stays", async () => {
   const { tab } = await page();
@@ -296,7 +298,7 @@ test("an item that is a map, and values of several kinds, aren't replaced silent
   ok(operation);
   await client.quit();
   deepEqual(tab.faults, []);
-});
+}, long);
 
 test("a wrong ?doc= is said in words", async () => {
   shared ??= sharedParts();
@@ -368,7 +370,7 @@ test("a page with edits that aren't stored asks not to be left, and is left once
   await tab.until(ONLINE);
   await same(tab, "both have it", ".item", ["stored", "late"]);
   deepEqual(tab.faults, []);
-});
+}, long);
 
 test("two tabs: each has its replica, and sees what the other stored; nothing of a closed one is lost", async () => {
   const { tab, browser, profile, url } = await page();
@@ -397,7 +399,7 @@ test("two tabs: each has its replica, and sees what the other stored; nothing of
     await tab.until(ONLINE);
   }
   ok((await frontNames(tab)).length <= 4);
-});
+}, long);
 
 test("screenshots at 320, 768 and 1300 wide: nothing is cut off", async () => {
   const here = await page();
@@ -432,7 +434,7 @@ test("screenshots at 320, 768 and 1300 wide: nothing is cut off", async () => {
     await shot(tab, `width-${width}`);
   }
   deepEqual(tab.faults, []);
-});
+}, long);
 
 test("by keyboard alone", async () => {
   const { tab } = await page();
@@ -477,7 +479,7 @@ test("by keyboard alone", async () => {
   equal(await tab.focused(), "delete tea");
   deepEqual(seen.filter(([, outline]) => outline === "none"), []);
   deepEqual(tab.faults, []);
-});
+}, long);
 
 test("what a screen reader hears: each part has a name of its own, errors are live", async () => {
   const { tab } = await page();
@@ -498,7 +500,7 @@ test("what a screen reader hears: each part has a name of its own, errors are li
   equal(new Set(controls).size, controls.length);
   equal(named.filter((it) => /^(switch|textbox|button)$/.test(it)).length, 0); // without a name
   ok((await tab.evaluate(`document.querySelectorAll("[role=alert], [role=status]").length`)) > 8);
-});
+}, long);
 
 test("a hub that is frozen: it isn't called online, and all arrives later", async () => {
   shared ??= sharedParts();
@@ -579,7 +581,7 @@ test(`${LINES * 20} characters pasted offline: all are there after a reload, and
   }, SLOW_SECONDS);
   await shot(fresh, "long-text");
   deepEqual([...tab.faults, ...fresh.faults], []);
-}, skip, 3 * SLOW_SECONDS);
+}, long, 3 * SLOW_SECONDS);
 
 test("a full store: what is there is kept, it is said, and edits go on once there is room", async () => {
   const { tab, browser, profile, document } = await page({ quota: 300_000 });
@@ -618,7 +620,7 @@ test("a full store: what is there is kept, it is said, and edits go on once ther
   await same(tab, "all of it is there", ".item", ["stored", "refused"], SLOW_SECONDS);
   await same(tab, "the text, too", ".text", ["z".repeat(2500)]);
   deepEqual(tab.faults, []);
-}, skip, 2 * SLOW_SECONDS);
+}, long, 2 * SLOW_SECONDS);
 
 test("New replicas: what no server has is asked for first", async () => {
   const { tab } = await page();
@@ -654,7 +656,7 @@ test("New replicas: what no server has is asked for first", async () => {
   await tab.click("#forget");
   await tab.until(`document.querySelector("#ada h2")?.title !== "${next}"`);
   deepEqual(tab.faults, []);
-});
+}, long);
 
 test("a store with a row that can't be read: the others are used, and it can be saved", async () => {
   const { tab, document } = await page();
@@ -674,7 +676,7 @@ test("a store with a row that can't be read: the others are used, and it can be 
   match((await tab.textOf("#ada .notice"))[0], /^1 of 3 stored lines couldn't be read or used/);
   await same(tab, "the others are there", ".item", ["one", "two"]);
   deepEqual(tab.faults, []);
-});
+}, long);
 
 test("a browser that is killed: what was edited is there", async () => {
   const server = await startServer(["page"]);
@@ -701,7 +703,7 @@ test("a browser that is killed: what was edited is there", async () => {
   } finally {
     await second.close();
   }
-});
+}, long);
 
 test("replicas of others that have one word for a name are told apart", async () => {
   const { server, tab, document } = await page();
@@ -727,7 +729,7 @@ test("replicas of others that have one word for a name are told apart", async ()
   } finally {
     await Promise.all(others.map((other) => other.close()));
   }
-});
+}, long);
 
 test("the text pad: two browsers type into one text", async () => {
   shared ??= sharedParts();
@@ -795,7 +797,7 @@ test("the text pad takes no keys before its store is open, and loses none", asyn
   await tab.evaluate("openStore()");
   await tab.until(`document.querySelector("#text").value === "typed now"`);
   deepEqual(tab.faults, []);
-});
+}, long);
 
 /** Of each caret that a pad shows: its name, and the text before it, as where the browser draws it
  *  says. */
@@ -836,7 +838,7 @@ test("the text pad shows who is here, and their carets, which move with the text
   await bob.until(`document.querySelector("#here").textContent === ""`);
   await shows(bob, []);
   deepEqual([...ada.faults, ...bob.faults], []);
-});
+}, long);
 
 test("the text pad says that it loads, and how much has come", async () => {
   const url = await padUrl();
@@ -854,7 +856,7 @@ test("the text pad says that it loads, and how much has come", async () => {
   equal(said[0], "loading");
   ok(said.some((it) => /^loading: \d+ changes have come$/.test(it)), `${said}`);
   equal(said.at(-1), "online ");
-});
+}, long);
 
 test("a browser without IndexedDB: the text pad goes on in memory, and says so", async () => {
   const url = await padUrl();
@@ -868,7 +870,7 @@ test("a browser without IndexedDB: the text pad goes on in memory, and says so",
   const other = await browser.tab(url, { profile: await browser.profile() });
   await other.until(`document.querySelector("#text").value === "at the server"`);
   deepEqual([await other.textOf("#problem"), tab.faults, other.faults], [[""], [], []]);
-});
+}, long);
 
 test("a text pad that may only read takes no keys, and shows what others type", async () => {
   const { browser } = await (shared ??= sharedParts());
@@ -937,7 +939,7 @@ test("a server whose older file is put back: the text pad says so, and makes its
   await tab.until(PAD_ONLINE);
   await until("its changes are there", async () => (await shown()).text === "Hello");
   deepEqual(await shown(), { k: "another", text: "Hello" });
-});
+}, long);
 
 test("behind a proxy with TLS, below a path", async (context) => {
   const folder = room();
@@ -1018,4 +1020,4 @@ test("by plain http from another machine, where there are no locks", async () =>
   await same(tab, "it is there", ".title", ["an offline edit"]);
   ok((await frontNames(tab)).length <= 2);
   deepEqual(tab.faults, []);
-});
+}, long);

@@ -7,12 +7,13 @@ import { tmpdir } from "node:os";
 import { join } from "node:path";
 import { test } from "node:test";
 import { fileURLToPath } from "node:url";
+import { tooLong } from "../../js/test/support.mjs";
 
 const WEB = fileURLToPath(new URL("../web/", import.meta.url));
 const HUB = fileURLToPath(new URL("..", import.meta.url));
 const CLIENTS = fileURLToPath(new URL("../..", import.meta.url));
 const AMBIENT = fileURLToPath(new URL("../../js/test/ambient.d.ts", import.meta.url));
-const skip = spawnSync("tsc", ["--version"]).status !== 0 && "tsc isn't installed";
+const skip = spawnSync("tsc", ["--version"]).status !== 0 ? "tsc isn't installed" : tooLong;
 
 test("types of the page", { skip, timeout: 900_000 }, () => {
   const room = mkdtempSync(join(tmpdir(), "jcrdt-types-"));

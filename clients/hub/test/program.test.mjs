@@ -13,6 +13,7 @@ import {
   HUB, joinLines, joinWeb, kill, lacks, launch, ROOM, start, startHub, startServer, suite, until, webSockets,
   within,
 } from "./support.mjs";
+import { tooLong } from "../../js/test/support.mjs";
 import { OPTIONS } from "../lib/options.mjs";
 
 const PACKAGE = fileURLToPath(new URL("../", import.meta.url));
@@ -94,7 +95,7 @@ suite("the program and the package", {}, () => {
     equal(lacking.status, 1, lacking.stderr);
   });
 
-  test("from a fresh clone, and linked as a workspace, it finds the package jcrdt", { skip: lacks("npm") }, () => {
+  test("from a fresh clone, and linked as a workspace, it finds the package jcrdt", { skip: lacks("npm") || tooLong }, () => {
     const clone = join(ROOM, "clone");
     for (const name of ["package.json", "clients/js", "clients/hub"]) {
       const filter = (from) => !from.endsWith("node_modules");
@@ -114,7 +115,7 @@ suite("the program and the package", {}, () => {
     equal(run(process.execPath, "-e", found), due);
   });
 
-  test("packed, it runs in an empty folder", { skip: lacks("npm") }, async () => {
+  test("packed, it runs in an empty folder", { skip: lacks("npm") || tooLong }, async () => {
     const room = join(ROOM, "packed");
     const modules = join(room, "node_modules");
     mkdirSync(room);

@@ -3,6 +3,7 @@
 import { deepEqual, equal, match, ok, rejects } from "node:assert/strict";
 import net from "node:net";
 import { test } from "node:test";
+import { tooLong } from "../../js/test/support.mjs";
 import { Away, Lost } from "../../js/wire.mjs";
 import {
   atEnd, hasServer, hubWithin, joinLines, kill, Raw, startHub, startServer, suite, until, within,
@@ -127,7 +128,7 @@ suite("sessions of the server", { concurrency: true, ...LIMIT }, () => {
     ok(isRenewed(), "sessions were renewed");
   });
 
-  test("a session takes its limit and 9,900 lines more at most, however fast they come", async () => {
+  test("a session takes its limit and 9,900 lines more at most, however fast they come", { skip: tooLong }, async () => {
     const server = await startServer(["d"]);
     const proxy = await startProxy(server.address);
     const hub = await hubWithin({

@@ -6,12 +6,13 @@ import { existsSync, mkdirSync, readdirSync, writeFileSync } from "node:fs";
 import { join } from "node:path";
 import { test } from "node:test";
 import { fileURLToPath } from "node:url";
+import { tooLong } from "../../js/test/support.mjs";
 import { lacks, ROOM } from "./support.mjs";
 
 const PACKAGE = fileURLToPath(new URL("../", import.meta.url));
 const DEBIAN_TYPES = "/usr/share/nodejs/@types";
 
-test("types", { skip: lacks("tsc", "dpkg-deb"), timeout: 900_000 }, (context) => {
+test("types", { skip: lacks("tsc", "dpkg-deb") || tooLong, timeout: 900_000 }, (context) => {
   const types = nodeTypes();
   if (!types) return context.skip("@types/node isn't to be had: Debian's package nodejs has it");
   const options = {

@@ -6,7 +6,7 @@ import { Away, Counter, Replica, connected, freshName, parse, plain, print } fro
 import { NAME_USED_TWICE } from "../protocol.mjs";
 import { engines } from "./engines.mjs";
 import { dice } from "./random.mjs";
-import { startServer } from "./support.mjs";
+import { startServer, tooLong } from "./support.mjs";
 
 const LIMIT = { timeout: 900_000 };
 const LOST = "the module: what a server loses by a kill while it is compared doesn't differ";
@@ -315,7 +315,7 @@ for (const [title, engine] of engines) {
   });
 
   test(`${title}: random copies of a store, opened and exchanged at once: each edit is there once`, LIMIT, async () => {
-    for (let seed = 1; seed <= 40; seed++) {
+    for (let seed = 1; seed <= (tooLong ? 8 : 40); seed++) {
       const { next } = dice(seed);
       const below = (/** @type {number} */ limit) => Math.floor(next() * limit);
       const server = fakeServer();
@@ -610,7 +610,7 @@ for (const [title, engine] of engines) {
     }
     const bad = Array.from({ length: 64 }, (_, at) => ["op", [7, "p"], [["q", 6]], [[], 0], ["assign", "z".repeat(4096) + at]]);
     let count = 0;
-    const flood = fakeServer(([word]) => word === "ops" && count++ < 100
+    const flood = fakeServer(([word]) => word === "ops" && count++ < (tooLong ? 20 : 100)
       ? ["ops", bad.map((op) => ["op", [count + 7, "p"], [["q", 6]], op[3], op[4]])] : undefined);
     ok((await replicaOf("me").sync(flood.answer)).refused.length <= 1000);
   });

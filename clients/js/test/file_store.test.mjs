@@ -13,8 +13,9 @@ import { Busy, Provider, Unstored } from "../provider.mjs";
 import { fileStore } from "../file_store.mjs";
 import { until } from "./chromium.mjs";
 import { room } from "./serving.mjs";
+import { tooLong } from "./support.mjs";
 
-const test = (name, work) => node(name, { timeout: 900_000 }, work);
+const test = (name, work, skip = false) => node(name, { timeout: 900_000, skip }, work);
 const part = (name) => fileURLToPath(new URL(`parts/${name}`, import.meta.url));
 const opened = (file, document = "notes") =>
   Provider.open({ document, word: "ada", store: fileStore(file) });
@@ -177,7 +178,7 @@ test("locks that are left again and again: never do two programs have one file",
   }));
   for (const text of told) match(text, /^\d+$/); // how often it had the file
   ok(told.reduce((sum, text) => sum + Number(text), 0) > 20);
-});
+}, tooLong);
 
 test("a lock of a program that has ended, and whose parent hasn't asked how", async () => {
   const file = `${room()}/notes`;

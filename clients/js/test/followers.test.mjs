@@ -13,8 +13,9 @@ import { cpuOf, slowness, tooLong } from "./support.mjs";
 
 const LISTS = [[0, "t"], [0, "cards"], [0, "t", 3], [0, "cards", 1, "in"], [0]];
 const VALUES = ["x", "x", "y", null, 7, 2n ** 60n, true, {}, []];
-const MANY = 40_000;
+const MANY = tooLong ? 2_000 : 40_000;
 const KEYS = 200;
+const STEPS = tooLong ? 60 : 150; // of a history
 const SECONDS = 4; // of the processor, for so many keys
 
 /** Replicas of the same name over each engine, that do the same; each says what it was told. */
@@ -101,7 +102,7 @@ function aHistory(seed) {
   const alike = new Alike(first.lines());
   others.forEach((other) => other.deliverAll(first.lines().slice(1)));
   const [mine] = alike.replicas;
-  for (let step = 0; step < 150; step++) {
+  for (let step = 0; step < STEPS; step++) {
     const what = `seed ${seed}, step ${step}`;
     const [kind, other, edit] = [random.next(), random.pick(others), anEdit(random)];
     const edits = Array.from({ length: random.below(6) }, () => anEdit(random));
@@ -115,7 +116,7 @@ function aHistory(seed) {
       alike.do(what, (replica) => replica.deliverAll(came).taken);
     } else if (kind < 0.9) other.deliverAll([...mine.operations(other.front())]);
     else notePlaces(alike, random);
-    if (step === 75) LISTS.forEach((list) => refusalOr(() => alike.watch(/** @type {Cursor} */ (list))));
+    if (step === STEPS / 2) LISTS.forEach((list) => refusalOr(() => alike.watch(/** @type {Cursor} */ (list))));
     alike.do(what, (replica) => alike.places.map((place) => refusalOr(() => replica.indexOf(place))));
   }
 }
@@ -201,6 +202,9 @@ const long = (() => {
   return me.lines();
 })();
 
+/** Where the changes are: all over the text. */
+const STEP = Math.floor(MANY * 0.75 / KEYS);
+
 for (const [title, engine] of engines) {
   const open = () => Replica.restore(long, { engine });
 
@@ -227,8 +231,8 @@ for (const [title, engine] of engines) {
   test(`${title}: keys in a watched list of ${MANY}`, { timeout: 900_000 }, async (context) => {
     const me = open();
     const model = modelOf(me);
-    await isSoon(context, "a key", (at) => me.splice([0, "t"], at * 150, 0, "k"));
-    await isSoon(context, "a deletion", (at) => me.splice([0, "t"], at * 150, 1, ""));
+    await isSoon(context, "a key", (at) => me.splice([0, "t"], at * STEP, 0, "k"));
+    await isSoon(context, "a deletion", (at) => me.splice([0, "t"], at * STEP, 1, ""));
     await isSoon(context, "a key of undo", () => me.undo());
     equal(model.length, MANY + KEYS);
     deepEqual(model, [...me.text([0, "t"])]);

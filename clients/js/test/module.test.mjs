@@ -11,7 +11,7 @@ import { Worker } from "node:worker_threads";
 import { Broken, Refused, Replica, load, openReplica, parse } from "../index.mjs";
 import { opener } from "../jcrdt.mjs";
 import { LastingEngine } from "../lasting.mjs";
-import { folder } from "./support.mjs";
+import { folder, tooLong } from "./support.mjs";
 
 const PACKAGE = fileURLToPath(new URL("..", import.meta.url));
 const places = ["../jcrdt.wasm", "../../../release/jcrdt.wasm"].map((it) => new URL(it, import.meta.url));
@@ -118,19 +118,30 @@ function nearTheEnd(call, after) {
       return error;
     }
   };
-  let [good, bad] = [0, 100];
-  while (!errorAt(bad)) bad *= 2;
-  while (bad - good > 10) {
-    const depth = Math.floor((good + bad) / 2);
-    if (errorAt(depth)) bad = depth;
-    else good = depth;
+  /** A depth at which the call is done. Somewhat deeper it isn't. */
+  const lastGood = () => {
+    let [good, bad] = [0, 100];
+    while (!errorAt(bad)) bad *= 2;
+    while (bad - good > 10) {
+      const depth = Math.floor((good + bad) / 2);
+      if (errorAt(depth)) bad = depth;
+      else good = depth;
+    }
+    return good;
+  };
+  let [good, times] = [lastGood(), 0];
+  for (let depth = good + 500; depth > good - 20; depth -= 2) {
+    const error = errorAt(depth);
+    after(error);
+    if (error || depth < good + 100 || times++ > 9) continue;
+    good = lastGood(); // its frames are smaller since the engine of JavaScript has optimized it
+    depth = good + 500;
   }
-  for (let depth = good + 500; depth > good - 20; depth -= 2) after(errorAt(depth));
 }
 
 const isBroken = (/** @type {unknown} */ error) => error instanceof Broken;
 
-test("an exhausted stack costs the call that met it, and no other", async (context) => {
+test("an exhausted stack costs the call that met it, and no other", { skip: tooLong }, async (context) => {
   await load({ module: MODULE });
   const [me, other] = [await openReplica("ada", "d"), await openReplica("bob", "d")];
   let [count, broken, refused, done] = [0, 0, 0, 0];

@@ -12,8 +12,10 @@ import { connected } from "../session.mjs";
 import { until } from "./chromium.mjs";
 import { engines } from "./engines.mjs";
 import { end, room, start, startServer } from "./serving.mjs";
+import { tooLong } from "./support.mjs";
 
 const HUB = fileURLToPath(new URL("../../hub/hub.mjs", import.meta.url));
+const MANY = tooLong ? 5 : 20; // providers
 const endings = new Set();
 
 const test = (name, work) => node(name, { timeout: 900_000 }, async (t) => {
@@ -110,9 +112,9 @@ async function opened(proxy, options = {}) {
 const texts = ({ replica }) => replica.items([0, "t"]).map(([, [text]]) => text);
 const type = ({ replica }, text) => replica.insert([0, "t", 0], text);
 const allHave = (providers, number) => until("all have it",
-  () => providers.every(({ replica }) => replica.count === number), 60);
+  () => providers.every(({ replica }) => replica.count === number));
 
-for (const number of [3, 20]) {
+for (const number of tooLong ? [3] : [3, 20]) {
   test(`${number} providers: a key is one request, and a push for each`, async () => {
     const { proxy } = await all();
     const providers = await Promise.all(Array.from({ length: number }, () => opened(proxy)));
@@ -334,9 +336,9 @@ test("the server's disk took changes back: they are given again through the hub"
   deepEqual([texts(eve), eve.replica.count], [["one"], 3]);
 });
 
-test("20 providers type 40 keys each, at once: each has every key", async () => {
+test(`${MANY} providers type 40 keys each, at once: each has every key`, async () => {
   const { proxy } = await all();
-  const providers = await Promise.all(Array.from({ length: 20 }, () => opened(proxy)));
+  const providers = await Promise.all(Array.from({ length: MANY }, () => opened(proxy)));
   providers[0].replica.assign([0, "t"], []);
   await allHave(providers, 1);
   proxy.clear();
@@ -355,5 +357,5 @@ test("20 providers type 40 keys each, at once: each has every key", async () => 
   for (const it of others) deepEqual(it, first);
   const { requests, lines } = tally(proxy);
   equal(requests.deliver, typed.length);
-  ok(lines.logged <= typed.length * 20);
+  ok(lines.logged <= typed.length * MANY);
 });

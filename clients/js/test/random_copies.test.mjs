@@ -9,6 +9,7 @@ import { test } from "node:test";
 import { load } from "../jcrdt.mjs";
 import { faultOf } from "./random_copies.mjs";
 import { room } from "./serving.mjs";
+import { tooLong } from "./support.mjs";
 
 const FIRST = Number(process.env.SEED ?? 1);
 const LIMIT = { timeout: 3_600_000 };
@@ -20,7 +21,7 @@ const LIMIT = { timeout: 3_600_000 };
 async function runs(which, usual, slow, more = []) {
   await load();
   const folder = room(existsSync("/dev/shm") ? "/dev/shm" : undefined); // no disk slows it down there
-  const count = Number(process.env.SEEDS ?? (process.env.JCRDT_SLOW ? slow : usual));
+  const count = Number(process.env.SEEDS ?? (process.env.JCRDT_SLOW ? slow : tooLong ? Math.ceil(usual / 5) : usual));
   const seeds = Array.from({ length: count }, (_, at) => FIRST + at);
   const faults = [];
   for (const seed of new Set([...seeds, ...(process.env.SEEDS ? [] : more)])) {

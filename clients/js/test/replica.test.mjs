@@ -8,8 +8,8 @@ import { engines } from "./engines.mjs";
 import { RandomSession } from "./random_sessions.mjs";
 import { answered, cpuOf, slowness, tooLong } from "./support.mjs";
 
-const SECONDS = Number(process.env.SECONDS ?? 2); // of random sessions, for each engine
-const AT_ONCE = 8; // documents of one `run`
+const SECONDS = Number(process.env.SECONDS ?? (tooLong ? 0.3 : 2)); // of random sessions, for each engine
+const AT_ONCE = tooLong ? 2 : 8; // documents of one `run`
 
 for (const [title, engine] of engines) {
   /** @param {string} name */
@@ -247,7 +247,7 @@ for (const [title, engine] of engines) {
   });
 
   test(`${title}: splices of a list, by random edits of two`, () => {
-    for (let seed = 1; seed <= 6; seed++) {
+    for (let seed = 1; seed <= (tooLong ? 2 : 6); seed++) {
       const session = new RandomSession("d", seed, engine);
       session.watched.forEach(followsItems);
     }

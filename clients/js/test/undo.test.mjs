@@ -5,8 +5,9 @@ import { test } from "node:test";
 import { Conflict, Counter, MOST, Refused, Replica, plain, print } from "../index.mjs";
 import { engines } from "./engines.mjs";
 import { dice } from "./random.mjs";
+import { tooLong } from "./support.mjs";
 
-const HISTORIES = Number(process.env.HISTORIES ?? 100); // 10,000 before a release
+const HISTORIES = Number(process.env.HISTORIES ?? (tooLong ? 25 : 100)); // 10,000 before a release
 
 /** What a replica shows. A counter of 0 beside a value is left out: undo can't clear it.
  *  @param {Replica} replica */
@@ -197,7 +198,7 @@ for (const [name, engine] of engines) {
     equal(me.sum([0, "n"]), 0, "it was cleared");
   });
 
-  test(`${name}: undo without room for it changes nothing`, { timeout: 900_000 }, () => {
+  test(`${name}: undo without room for it changes nothing`, { timeout: 900_000, skip: tooLong }, () => {
     const me = new Replica("a", "d", { engine });
     me.put([0, "l"], Array.from({ length: 100 }, () => "x"));
     me.delete([0, "l"]);
@@ -304,7 +305,7 @@ for (const [name, engine] of engines) {
     deepEqual(plain(ada.show([0, "card"])), { title: "t", votes: new Counter(2) });
   });
 
-  test(`${name}: undo asks for the room that it needs`, { timeout: 900_000 }, () => {
+  test(`${name}: undo asks for the room that it needs`, { timeout: 900_000, skip: tooLong }, () => {
     const me = new Replica("a", "d", { engine });
     const all = Array.from({ length: MOST.log - 1000 }, (_, at) =>
       ["op", [at + 1, "p"], at === 0 ? [] : [["p", at]], [[["m", 0]], "k"], ["delete"]]);

@@ -572,7 +572,11 @@ class Relay:
                 continue
             at, next_look = (places, front), now + max(LOOK_EVERY, LOOK_SHARE * (time.monotonic() - now))
             self._note_look(log, front, alike)
-            if alike and places != said and self._agreeing(log) == places:
+            if alike and places != said:
+                if self._agreeing(log) != places:
+                    # Something came meanwhile, or a stream was cut: it is said when they agree again.
+                    at, pause = None, 5 * (time.monotonic() - now)
+                    continue
                 self.say(f"{log.name}: all {len(places)} agree")
             said = places if alike else []
 

@@ -23,6 +23,9 @@ sys.dont_write_bytecode = True
 sys.path.insert(0, str(PACKAGE))
 import jcrdt  # noqa: E402
 from jcrdt import store as store_module  # noqa: E402
+# Whether `tests/clients --short` runs them. It leaves out tests of some ten seconds of a processor, and does fewer random runs.
+IS_SHORT = bool(os.environ.get("JCRDT_SHORT"))
+takes_long = pytest.mark.skipif(IS_SHORT, reason="it takes long, and ./test runs it")
 # The longest that a test waits for a process or a fact. It is far more than a slow machine takes.
 SECONDS = 300
 # How a server takes back sessions from who is silent for a second while others wait.

@@ -2,6 +2,7 @@
 are cancelled, a server that is silent or ends, and a fork."""
 
 import asyncio
+import contextlib
 import signal
 from typing import Any, Awaitable, Callable, List, TypeVar
 
@@ -150,8 +151,14 @@ def test_a_task_that_is_cancelled(serve: Serve) -> None:
 def test_a_server_that_is_silent(serve: Serve) -> None:
     server = serve("d")
 
+    async def begun() -> aio.Session:
+        """On a busy machine a server may be silent for so long before it is frozen."""
+        while True:
+            with contextlib.suppress(Away):
+                return await aio.connected(server.address, seconds=0.1)
+
     async def test() -> None:
-        async with aio.connected(server.address, seconds=0.1) as session:
+        async with await begun() as session:
             freeze(server)
             with pytest.raises(Lost, match="no reply for 0.1 s"):
                 await session.version()

@@ -1,9 +1,10 @@
 """Logs are compared before they are mixed: two servers, a replica and a server, over files that were copied or put back."""
 
+import bisect
 import hashlib
 import os
 from pathlib import Path
-from typing import Any, Callable, Dict, List, Optional
+from typing import Any, Callable, Dict, List, Optional, Sequence
 
 import pytest
 
@@ -24,6 +25,19 @@ Serve = Callable[..., Server]
 needs_library = pytest.mark.skipif(not any(map(os.path.isfile, replica_module.library_paths())), reason="libjcrdt.so isn't here")
 
 
+class Absolute(Sequence[int]):
+    """Numbers without their signs, of which each is made when it is asked for."""
+
+    def __init__(self, signed: List[int]) -> None:
+        self.signed = signed
+
+    def __getitem__(self, at: Any) -> Any:
+        return abs(self.signed[at])
+
+    def __len__(self) -> int:
+        return len(self.signed)
+
+
 class Side:
     """Operations, as a server that is asked for chains has them. `widths` are those of the requests."""
 
@@ -41,7 +55,9 @@ class Side:
                 for piece in pieces]
 
     def digest(self, name: str, after: int, last: int) -> str:
-        lines = "".join(f"{it}\n" for it in self.counters[name] if after < abs(it) <= last)
+        counters = self.counters[name]
+        first, end = (bisect.bisect_right(Absolute(counters), it) for it in (after, last))
+        lines = "".join(f"{it}\n" for it in counters[first:end])
         return hashlib.sha256(lines.encode()).hexdigest()
 
 

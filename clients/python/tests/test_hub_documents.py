@@ -13,7 +13,7 @@ from typing import Any, Callable, Iterator, List, Tuple
 
 import pytest
 
-from conftest import PROGRAM, SECONDS, TOP, of_either_name, tool
+from conftest import IS_SHORT, PROGRAM, SECONDS, TOP, of_either_name, tool
 from test_mixed_copies import Either
 from test_running_copies import OfJavaScript, Program, state
 
@@ -53,10 +53,26 @@ class Hub:
 
 
 @pytest.fixture
-def hub(tmp_path: Path) -> Iterator[Hub]:
+def own(tmp_path: Path) -> Iterator[Hub]:
+    """A hub that no other test has."""
     it = Hub(tmp_path / "data")
     yield it
     it.end()
+
+
+@pytest.fixture(scope="module")
+def running(tmp_path_factory: pytest.TempPathFactory) -> Iterator[Hub]:
+    it = Hub(tmp_path_factory.mktemp("hub") / "data")
+    yield it
+    it.end()
+
+
+@pytest.fixture
+def hub(running: Hub) -> Iterator[Hub]:
+    """A hub without documents: those of a test are in the bin behind it."""
+    yield running
+    for document in running.desk.list():
+        running.desk.delete(document.name)
 
 
 def opened(hub: Hub, document: str = "d") -> Session:
@@ -65,8 +81,8 @@ def opened(hub: Hub, document: str = "d") -> Session:
     return it
 
 
-def test_documents_are_made_and_listed(hub: Hub) -> None:
-    with jcrdt.connected(hub.address) as client:
+def test_documents_are_made_and_listed(own: Hub) -> None:
+    with jcrdt.connected(own.address) as client:
         assert client.list() == []
         for name in ("trip", "-x", "a" * 32):
             client.create(name)
@@ -84,9 +100,9 @@ def test_documents_are_made_and_listed(hub: Hub) -> None:
         assert now == jcrdt.Generation("1", 1, 1)
 
 
-def test_more_than_a_thousand_documents_are_listed(hub: Hub) -> None:
+def test_more_than_a_thousand_documents_are_listed(own: Hub) -> None:
     names = sorted(f"n-{number}" for number in range(1001))
-    with jcrdt.connected(hub.address) as client:
+    with jcrdt.connected(own.address) as client:
         client.ask_all([["create", name] for name in names])
         assert client.list() == names
 
@@ -101,9 +117,9 @@ def test_a_server_has_no_such_requests(serve: Callable[..., Any]) -> None:
                 ask()
 
 
-def test_what_who_runs_a_hub_does_with_documents(hub: Hub, tmp_path: Path) -> None:
-    desk = hub.desk
-    with opened(hub, "trip") as client:
+def test_what_who_runs_a_hub_does_with_documents(own: Hub, tmp_path: Path) -> None:
+    desk = own.desk
+    with opened(own, "trip") as client:
         client.put("trip", [0], {"title": "Oslo", "big": 2**60})
         desk.create("plans")
         lines = list(desk.export("trip"))
@@ -126,19 +142,19 @@ def test_what_who_runs_a_hub_does_with_documents(hub: Hub, tmp_path: Path) -> No
     desk.restore(entry, "again")
     assert desk.deleted() == [] and [it.name for it in desk.list()] == ["again", "plans"]
     (tmp_path / "lines").write_text("".join(f"{it}\n" for it in desk.export("again")))
-    with opened(hub, "copy") as client:
-        tool("load", hub.address, "copy", str(tmp_path / "lines"))
+    with opened(own, "copy") as client:
+        tool("load", own.address, "copy", str(tmp_path / "lines"))
         assert client.plain("copy", [0]) == {"title": "Oslo", "big": 2**60}
 
 
-def test_a_folder_that_no_hub_has(hub: Hub, tmp_path: Path) -> None:
+def test_a_folder_that_no_hub_has(own: Hub, tmp_path: Path) -> None:
     with pytest.raises(Away, match="no hub has"):
         Desk(str(tmp_path / "none")).list()
-    hub.end(signal.SIGKILL)
+    own.end(signal.SIGKILL)
     with pytest.raises(Away, match="no hub has"):
-        hub.desk.create("d")
-    hub.start()
-    assert hub.desk.list() == []
+        own.desk.create("d")
+    own.start()
+    assert own.desk.list() == []
 
 
 def test_a_session_goes_on_in_the_next_generation(hub: Hub) -> None:
@@ -236,18 +252,18 @@ def test_writes_that_were_answered_before_are_not_sent_again(hub: Hub, is_flushe
         assert client.plain("d", [0]) == {"list": ["three", "two", "one"], "votes": jcrdt.Counter(3), "stock": {"till": 7}}
 
 
-def test_writes_over_renewals_and_kills_of_the_hub(hub: Hub) -> None:
+def test_writes_over_renewals_and_kills_of_the_hub(own: Hub) -> None:
     writes, made = Writes("d"), 0
     for turn in range(4):
-        with opened(hub) as client:
+        with opened(own) as client:
             writes.send_again(client)
             for _ in range(5):
                 made += 1
                 writes.send(client, "add", [0, "n"], 1)
-            hub.desk.renew("d")
-        hub.end(signal.SIGKILL if turn % 2 else signal.SIGTERM)
-        hub.start()
-    with opened(hub) as client:
+            own.desk.renew("d")
+        own.end(signal.SIGKILL if turn % 2 else signal.SIGTERM)
+        own.start()
+    with opened(own) as client:
         assert writes.send_again(client) == (0, [])
         assert writes.flush(client) <= 5
         assert client.sum("d", [0, "n"]) == made
@@ -633,7 +649,7 @@ class Rounds:
 
 @needs_library
 @of_either_name
-@pytest.mark.parametrize("seed", range(int(os.environ.get("ROUNDS", "4"))))
+@pytest.mark.parametrize("seed", range(int(os.environ.get("ROUNDS", "1" if IS_SHORT else "4"))))
 def test_random_rounds_over_generations(hub: Hub, tmp_path: Path, seed: int) -> None:
     """Nothing is lost, nothing doubled."""
     with opened(hub) as client:

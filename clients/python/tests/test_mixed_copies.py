@@ -1,6 +1,7 @@
 """Copies of stores that go on in Python and in JavaScript: all sync, and each edit is there once.
 
-Over libjcrdt.so and node; skipped where one isn't here. With JCRDT_SLOW many seeds, with SEEDS so many."""
+Over libjcrdt.so and node; skipped where one isn't here. With JCRDT_SLOW many seeds, with SEEDS so many; with JCRDT_SHORT one, and a
+quarter of the ways in which three copies sync."""
 
 import contextlib
 import itertools
@@ -12,7 +13,7 @@ from typing import Callable, Iterator, List, Optional, Sequence, Tuple
 
 import pytest
 
-from conftest import Server
+from conftest import IS_SHORT, Server
 from test_running_copies import OfJavaScript, Program, begun, cut_after, state
 
 import jcrdt
@@ -21,7 +22,7 @@ from jcrdt.session import Session
 from jcrdt.syncing import Differs
 
 Serve = Callable[..., Server]
-SEEDS = int(os.environ.get("SEEDS", "60" if os.environ.get("JCRDT_SLOW") else "5"))
+SEEDS = int(os.environ.get("SEEDS", "60" if os.environ.get("JCRDT_SLOW") else "1" if IS_SHORT else "5"))
 
 pytestmark = [pytest.mark.skipif(not any(map(os.path.isfile, replica_module.library_paths())), reason="libjcrdt.so isn't here"),
               pytest.mark.skipif(shutil.which("node") is None, reason="node isn't here")]
@@ -109,15 +110,17 @@ def check(programs: Sequence[Either], client: Session, texts: Sequence[str], vot
 
 LANGUAGES = list(itertools.product(["python", "javascript"], repeat=3))
 WAYS = [(True, [0, 1, 2]), (True, [2, 1, 0]), (False, [2, 0, 1]), (False, [2, 1, 0]), (False, [1, 2, 0])]
+# In a short run each way twice, and each three languages at least once.
+CASES = [("-".join(languages), *way) for at, way in enumerate(WAYS) for number, languages in enumerate(LANGUAGES)
+         if not IS_SHORT or number % 4 == at % 4]
 
 
-@pytest.mark.parametrize("languages", LANGUAGES, ids="-".join)
-@pytest.mark.parametrize("is_edited, order", WAYS)
-def test_a_copy_of_a_copy(client: Session, tmp_path: Path, languages: Sequence[str], is_edited: bool, order: Sequence[int]) -> None:
+@pytest.mark.parametrize("languages, is_edited, order", CASES)
+def test_a_copy_of_a_copy(client: Session, tmp_path: Path, languages: str, is_edited: bool, order: Sequence[int]) -> None:
     """Of what no server has. The third one says so of the first one, also where the second one has made nothing by then."""
     begun(tmp_path / "0", client).close()
     programs: List[Either] = []
-    for number, language in enumerate(languages):
+    for number, language in enumerate(languages.split("-")):
         if number:
             shutil.copy(tmp_path / str(number - 1), tmp_path / str(number))
         programs.append(Either(tmp_path / str(number), client, language))

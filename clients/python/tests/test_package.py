@@ -15,7 +15,7 @@ from pathlib import Path
 from typing import Callable, List
 
 import pytest
-from conftest import PACKAGE, PROGRAM, SECONDS, TOP, Server
+from conftest import PACKAGE, PROGRAM, SECONDS, TOP, Server, takes_long
 
 import jcrdt
 
@@ -196,6 +196,7 @@ def other_pythons() -> List[str]:
     return [path for _, path in sorted(found)]
 
 
+@takes_long
 def test_the_oldest_python(serve: Serve, tmp_path: Path) -> None:
     """A session, the log of a served file, and a stop while a client is connected."""
     pythons = other_pythons()

@@ -16,10 +16,11 @@ from typing import Any, Callable, Dict, Iterator, List, Union
 
 import pytest
 
-from conftest import (DURABLE, IMPATIENT, PACKAGE, SECONDS, TOP, Older, Server, copied, put_back, takes_silent_ones,
+from conftest import (DURABLE, IMPATIENT, PACKAGE, SECONDS, TOP, Older, Server, copied, put_back, takes_long, takes_silent_ones,
                       wait_until as wait_for)
 
 from jcrdt import operation_log, pull, wire
+from jcrdt import relay as relay_module
 
 Serve = Callable[..., Server]
 # What a peer answers to a word: bytes of a line, or what writes to the connection.
@@ -268,6 +269,7 @@ def test_bad_replies_to_deliveries(serve: Serve, relay: Callable[..., Relay], re
     assert kept.end() == 1
 
 
+@takes_long
 def test_a_line_without_an_end(serve: Serve, relay: Callable[..., Relay]) -> None:
     """Bytes without a newline, and a line that goes on for ever within what is shown, fill no memory."""
     def flood(connection: socket.socket) -> None:
@@ -294,6 +296,7 @@ def test_a_line_without_an_end(serve: Serve, relay: Callable[..., Relay]) -> Non
     kept.end()
 
 
+@takes_long
 def test_a_server_that_freezes_in_mid_pull(serve: Serve, relay: Callable[..., Relay]) -> None:
     """The others go on while it is frozen, also with bursts of more than a page."""
     servers = [serve("d", name=it) for it in ("alice", "bob", "carol")]
@@ -413,6 +416,22 @@ def test_contested_while_a_page_is_under_way() -> None:
         asyncio.run(pull_twice())
         assert {it.text for it in log.operations} >= {wire.encoded(it) for it in real}
         assert alice.asked < 40
+
+
+def test_what_was_no_agreement_any_more_is_said_once_it_is_one_again(monkeypatch: pytest.MonkeyPatch) -> None:
+    """What all show was compared, and meanwhile a stream was cut. Behind it the fronts are as before."""
+    said: List[str] = []
+    kept, places = relay_module.Relay([], ["d"], 0.0, print, said.append), [object()]
+    found = iter([places, [], [], places, places])
+
+    async def alike(_: object) -> bool:
+        return True
+
+    monkeypatch.setattr(kept, "_agreeing", lambda _: next(found))
+    monkeypatch.setattr(kept, "_alike_now", alike)
+    with pytest.raises(RuntimeError, match="StopIteration"):
+        asyncio.run(kept._look(kept.logs[0]))
+    assert said == ["d: all 1 agree"]
 
 
 class Answering:

@@ -12,7 +12,7 @@ from typing import Any, Callable, Iterator, List
 
 import pytest
 
-from conftest import SECONDS, wait_until as wait_for
+from conftest import SECONDS, takes_long, wait_until as wait_for
 from test_relay import Relay, Serve, asked, comes, relay, write  # noqa: F401
 
 pytest.importorskip("redis.asyncio", reason="python3-redis isn't installed")
@@ -135,6 +135,7 @@ def test_what_is_no_operation_of_a_batch_is_skipped(serve: Serve, relay: Callabl
         assert kept.errors().count("is skipped") == 5, kept.errors()
 
 
+@takes_long
 def test_many_at_once_are_few_entries(serve: Serve, relay: Callable[..., Relay],  # noqa: F811
                                       redis: Callable[..., Redis]) -> None:
     """What a server has already is added by many to an entry, each entry fits a line unless it is one operation, and a relay
@@ -196,7 +197,7 @@ def test_an_operation_before_its_dependency(serve: Serve, relay: Callable[..., R
         comes(site, "two", last=2)
 
 
-@pytest.mark.parametrize("how", ["FLUSHALL", "DEL", "XTRIM", "XDEL", "killed"])
+@pytest.mark.parametrize("how", ["DEL", "killed", *(pytest.param(it, marks=takes_long) for it in ("FLUSHALL", "XTRIM", "XDEL"))])
 def test_what_was_cut_is_added_again(serve: Serve, relay: Callable[..., Relay], redis: Callable[..., Redis],  # noqa: F811
                                      how: str) -> None:
     """A site that joins after a cut gets everything, also if all relays were started again after it."""
@@ -252,6 +253,7 @@ def test_how_a_redis_is_named(serve: Serve, relay: Callable[..., Relay], redis: 
     assert relay(alice.address, "--redis", "http://x").process.wait(SECONDS) == 2
 
 
+@takes_long
 def test_tls(serve: Serve, relay: Callable[..., Relay], tmp_path: Path) -> None:  # noqa: F811
     """rediss:// with a certificate that is checked."""
     if not shutil.which("openssl"):
@@ -279,6 +281,7 @@ def ooms(store: Redis) -> int:
     return int(found[1]) if found else 0
 
 
+@takes_long
 def test_a_full_redis(serve: Serve, relay: Callable[..., Relay], redis: Callable[..., Redis]) -> None:  # noqa: F811
     """A Redis that takes no more is told once, and made up for when it has room again."""
     store = redis()

@@ -10,7 +10,7 @@ from typing import Any, Callable, Iterable, List, Tuple
 
 import pytest
 
-from conftest import SECONDS, TOP, Server, of_either_name, tool
+from conftest import IS_SHORT, SECONDS, TOP, Server, of_either_name, tool
 
 import jcrdt
 from jcrdt import replica as replica_module
@@ -149,7 +149,7 @@ def test_copies_that_hold_the_same_unsent_edits_make_them_again_once(serve: Serv
 
 
 @of_either_name
-@pytest.mark.parametrize("seed", range(12))
+@pytest.mark.parametrize("seed", range(3 if IS_SHORT else 12))
 def test_random_copies_of_a_store_lose_nothing_and_double_nothing(serve: Serve, tmp_path: Path, seed: int) -> None:
     dice = random.Random(seed)
     paths, texts = [str(tmp_path / "store-0")], ["base"]

@@ -7,7 +7,7 @@ from pathlib import Path
 from typing import Any, Callable, Dict, List, Tuple
 
 import pytest
-from conftest import Server, tool, wait_until
+from conftest import Server, takes_long, tool, wait_until
 
 import jcrdt
 from jcrdt import Refused, Session, renew, settled
@@ -396,6 +396,7 @@ def session_last(count: int) -> int:
     return max(range(count), key=lambda number: f"r{number}")
 
 
+@takes_long
 def test_content_of_half_a_document(serve: Serve) -> None:
     """`count` says what `put` will say, and `put --force` does it."""
     server = serve("old", "new")
@@ -408,6 +409,7 @@ def test_content_of_half_a_document(serve: Serve) -> None:
     assert "50013 operations of 1 replicas" in put(server, "new", "--force")
 
 
+@takes_long
 def test_a_union_above_the_limit(serve: Serve) -> None:
     """Two servers below the limit, whose union no server takes: all of both is put."""
     servers = [serve("old", "new", name=name) for name in ("alice", "bob")]

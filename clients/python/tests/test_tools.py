@@ -16,7 +16,7 @@ from pathlib import Path
 from typing import Callable, Iterator, List
 
 import pytest
-from conftest import PACKAGE, PROGRAM, SECONDS, Older, Server, tool, wait_until
+from conftest import PACKAGE, PROGRAM, SECONDS, Older, Server, takes_long, tool, wait_until
 from test_session import answering
 
 import jcrdt
@@ -259,6 +259,7 @@ def test_what_serves_no_file(serve: Serve, tmp_path: Path) -> None:
     database.close()
 
 
+@takes_long
 def test_what_is_left_to_write_is_told(serve: Serve) -> None:
     """Clients leave behind many changes. What isn't in the file yet is told, and at the end all is."""
     server = serve("d", sessions=6)
