@@ -34,7 +34,7 @@ const KINDS = { known: "", old: ", of an older package", cloned: ", of a cloned 
  *  @param {string} [named] The name of their test. */
 function both(name, work, other = "cloned", named = `${name}${KINDS[other]}`) {
   test(name, () => work("known"));
-  test(named, () => work(other));
+  test(named, () => work(other), { skip: tooLong });
 }
 
 /** Copies a file.
