@@ -5,7 +5,7 @@ import os
 import subprocess
 import sys
 from pathlib import Path
-from typing import Any, Iterator
+from typing import Any, Callable, Iterator, List, Tuple
 
 import pytest
 
@@ -67,11 +67,14 @@ def test_several_elements_are_inserted_and_deleted_at_once(ada: Replica) -> None
     assert ada.plain([0, "l"]) == ["<", {}, ">"]
     lines = ada.lines()
     assert (ada.insert_all([0, "l", 1], []), ada.delete_all([0, "l", 1], 0)) == ([], [])
-    for number, refused in [(9, lambda: ada.delete_all([0, "l", 2], 3)), (9, lambda: ada.insert_all([0, "l", 9], ["x"])),
-                            (6, lambda: ada.insert_all([0, "l", 1], ["x", 0.5])), (11, lambda: ada.insert_all([0, "l"], ["x", "y"])),
-                            (10, lambda: ada.delete_all([0, "l", 0], 1))]:
+    refused: List[Tuple[int, Callable[[], Any]]] = [
+        (9, lambda: ada.delete_all([0, "l", 2], 3)), (9, lambda: ada.insert_all([0, "l", 9], ["x"])),
+        (6, lambda: ada.insert_all([0, "l", 1], ["x", 0.5])), (11, lambda: ada.insert_all([0, "l"], ["x", "y"])),
+        (10, lambda: ada.delete_all([0, "l", 0], 1)),
+    ]
+    for number, change in refused:
         with pytest.raises(Refused) as raised:
-            refused()
+            change()
         assert raised.value.number == number
     assert ada.lines() == lines
     with Replica("ada-1", lines) as again:
@@ -83,7 +86,8 @@ def test_the_index_of_an_element(ada: Replica) -> None:
     carets = [ada.place([0, "l", at]) for at in range(4)]
     ada.delete([0, "l", 2])
     assert [ada.index([it]) for it in carets] == [0, 1, 1, 2]
-    for cursor in ([0], [0, "l"], [0, "none"]):
+    cursors: List[List[Any]] = [[0], [0, "l"], [0, "none"]]
+    for cursor in cursors:
         with pytest.raises(Refused, match="11 not-in-list"):
             ada.index(cursor)
     with pytest.raises(Refused, match="9 index-past-end"):
