@@ -59,6 +59,7 @@ const UNLOADED = "the engine isn't loaded: await load() of jcrdt/jcrdt before, o
 const HANDLE = 16; // bytes of a handle
 const FAULT = 24; // bytes of a fault: three numbers
 const ROOM = 65_536; // bytes, at first, for a line and for a text
+const RUNS = new Set(["inserts", "deletes"]);
 const DEPTH = 127; // of what the module reads: what is nested deeper is no JSON to it
 const encoder = new TextEncoder();
 const decoder = new TextDecoder();
@@ -395,10 +396,22 @@ class Proved {
     if (isDeeper(request, DEPTH)) return { reply: new Refused(1).reply };
     const line = written(request);
     return this.#heap.run(() => {
-      const [first, second] = this.#linesFor(line);
+      const [first, second] = RUNS.has(request[0]) ? this.#linesOfRun(line) : this.#linesFor(line);
       const reply = parse(first);
       return second === "" ? { reply } : { reply, line: second };
     });
+  }
+
+  /** As `#linesFor`. Memory may lack for the text of a run that was made: then this memory isn't used any
+   *  more, since nobody knows what was made.
+   *  @param {string} line
+   *  @returns {[string, string]} */
+  #linesOfRun(line) {
+    try {
+      return this.#linesFor(line);
+    } catch (cause) {
+      throw cause instanceof Refused ? new Error("memory lacks for the text of a run", { cause }) : cause;
+    }
   }
 
   /** Answers a request that makes no operation by the line of its reply.
