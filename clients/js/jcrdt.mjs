@@ -10,6 +10,7 @@
 
 import { Broken, Refused } from "./errors.mjs";
 import { isSimple, parse, print } from "./json.mjs";
+import { ROOM } from "./runs.mjs";
 
 /** @typedef {import("./operations.mjs").Key} Key */
 /** @typedef {import("./operations.mjs").Path} Path */
@@ -58,7 +59,6 @@ const UNLOADED = "the engine isn't loaded: await load() of jcrdt/jcrdt before, o
   + " openReplica";
 const HANDLE = 16; // bytes of a handle
 const FAULT = 24; // bytes of a fault: three numbers
-const ROOM = 65_536; // bytes, at first, for a line and for a text
 const RUNS = new Set(["inserts", "deletes"]);
 const DEPTH = 127; // of what the module reads: what is nested deeper is no JSON to it
 const encoder = new TextEncoder();
@@ -253,20 +253,22 @@ class Heap {
     }
   }
 
-  /** Puts a text where calls read it. Returns how many bytes it has.
+  /** Puts a text where calls read it, and makes room for what they give. Returns how many bytes it has.
+   *  Throws Refused (22) where there is no memory: no call is made then.
    *  @param {string} text */
   put(text) {
     this.#in.grow(Math.max(1, text.length * 3));
+    this.#out.grow(ROOM);
     return encoder.encodeInto(text, this.#in.bytes).written ?? 0;
   }
 
   get in() { return this.#in.at; }
 
-  /** The text that a call gives, or gives again where the room was too small for it.
+  /** The text that a call gives, or gives again where the room was too small for it. Throws Refused (22)
+   *  where there is no memory for that: the call was made.
    *  @param {(at: bigint, room: bigint) => bigint} call
    *  @param {(at: bigint, room: bigint) => bigint} again */
   given(call, again) {
-    this.#out.grow(ROOM);
     const room = this.#out.bytes.length;
     const length = Number(call(this.#out.at, BigInt(room)));
     if (length > room) {
@@ -396,19 +398,20 @@ class Proved {
     if (isDeeper(request, DEPTH)) return { reply: new Refused(1).reply };
     const line = written(request);
     return this.#heap.run(() => {
-      const [first, second] = RUNS.has(request[0]) ? this.#linesOfRun(line) : this.#linesFor(line);
+      const length = this.#heap.put(line);
+      const [first, second] = RUNS.has(request[0]) ? this.#linesOfRun(length) : this.#linesFor(length);
       const reply = parse(first);
       return second === "" ? { reply } : { reply, line: second };
     });
   }
 
-  /** As `#linesFor`. Memory may lack for the text of a run that was made: then this memory isn't used any
-   *  more, since nobody knows what was made.
-   *  @param {string} line
+  /** As `#linesFor`. Where the text needs more than ROOM, memory may lack for that of a run that was made:
+   *  then this memory isn't used any more, since nobody knows what was made.
+   *  @param {number} length
    *  @returns {[string, string]} */
-  #linesOfRun(line) {
+  #linesOfRun(length) {
     try {
-      return this.#linesFor(line);
+      return this.#linesFor(length);
     } catch (cause) {
       throw cause instanceof Refused ? new Error("memory lacks for the text of a run", { cause }) : cause;
     }
@@ -420,18 +423,17 @@ class Proved {
   text(request) {
     if (this.#handle === 0n) throw new TypeError("this replica was freed");
     const line = written(request);
-    return this.#heap.run(() => this.#linesFor(line)[0]);
+    return this.#heap.run(() => this.#linesFor(this.#heap.put(line))[0]);
   }
 
-  /** The reply's line, and the operation's where it made one.
-   *  @param {string} line
+  /** The reply's line to the request that was put, and the operation's where it made one.
+   *  @param {number} length
    *  @returns {[string, string]} */
-  #linesFor(line) {
+  #linesFor(length) {
     const { exports } = this.#heap;
     const handle = this.#handle;
-    const length = BigInt(this.#heap.put(line));
     const text = this.#heap.given(
-      (out, room) => exports.jcrdt_ask(handle, this.#heap.in, length, out, room),
+      (out, room) => exports.jcrdt_ask(handle, this.#heap.in, BigInt(length), out, room),
       (out, room) => exports.jcrdt_again(handle, out, room));
     const end = text.indexOf("\n");
     if (end < 0) throw new Refused(22);

@@ -33,8 +33,9 @@ import { covers, frontPairs, isId } from "./operations.mjs";
 import { endOf, requestOf, writtenOf } from "./places.mjs";
 import { REFUSALS } from "./protocol.mjs";
 import { remakeIn } from "./renewal.mjs";
+import { cut, lengthOf } from "./runs.mjs";
 import {
-  Counter, bare, checkValue, checkedInteger, integer, isBare, isGiven, pieces, plain,
+  Counter, bare, byteLength, checkValue, checkedInteger, integer, isBare, isGiven, pieces, plain,
 } from "./values.mjs";
 
 /** @typedef {import("./events.mjs").Changed} Changed */
@@ -321,7 +322,8 @@ export class Replica {
 
   /** Puts a nested value, as `plain` gives it: {} or [] first, and then what is in it, one operation
    *  each. It is one step of undo and one event. The whole value is checked before: a refusal
-   *  changes nothing. Counters are added; `undefined` in objects and arrays is left out.
+   *  changes nothing. Counters are added; `undefined` in objects and arrays is left out. Where memory
+   *  lacks in the middle it throws Refused (22), and what was made by then stays: `undo` takes it back.
    *  @param {Cursor} cursor
    *  @param {any} value
    *  @returns {Id[]} */
@@ -394,10 +396,12 @@ export class Replica {
   #insertBare(list, reference, values) {
     /** @type {Id[]} */
     const ids = [];
-    for (let at = 0; at < values.length; at += MOST_AT_ONCE) {
-      const request = this.#request([...list, at === 0 ? reference : ids[at - 1]]);
-      const some = values.slice(at, at + MOST_AT_ONCE).map(bare);
-      const befores = some.map((_, of) => (at + of === 0 ? this.#history.before("insert", request) : NOTHING_BEFORE));
+    const length = this.#lengthOf(list, ["insert", 0]);
+    const runs = cut(values.map(bare), (value) => length + byteLength(print(value)));
+    for (const some of runs) {
+      const request = this.#request([...list, ids.length === 0 ? reference : ids[ids.length - 1]]);
+      const first = ids.length === 0 ? this.#history.before("insert", request) : NOTHING_BEFORE;
+      const befores = some.map((_, at) => (at === 0 ? first : NOTHING_BEFORE));
       for (const id of this.#run("inserts", request, some, befores)) ids.push(id);
     }
     return ids;
@@ -408,11 +412,19 @@ export class Replica {
    *  @param {number} index
    *  @param {Id[]} ids */
   #deleteAll(list, index, ids) {
-    for (let at = 0; at < ids.length; at += MOST_AT_ONCE) {
-      const some = ids.slice(at, at + MOST_AT_ONCE);
+    const length = this.#lengthOf(list, ["delete"]);
+    for (const some of cut(ids, () => length)) {
       const befores = some.map((id) => this.#history.before("delete", this.#request([...list, id])));
       this.#run("deletes", [writtenOf(list), index], some.length, befores);
     }
+  }
+
+  /** The bytes that the line of a change of a list has at most: see `lengthOf`.
+   *  @param {Cursor} list
+   *  @param {any[]} mutation */
+  #lengthOf(list, mutation) {
+    const held = this.#mayHold ? this.#read("held").map((/** @type {[Id]} */ [[, name]]) => name) : [];
+    return lengthOf(this.#name, [...this.#front.keys(), ...held], writtenOf([...list, 0])[0], mutation);
   }
 
   /** Makes several changes by one request. Where memory lacks in the middle, what was made is noted before that
@@ -453,7 +465,7 @@ export class Replica {
 
   /** As Array.splice: behind the first `index` elements it inserts the values, nested or not, and
    *  deletes `count` others. A string counts as its characters. Returns the ids of the new
-   *  elements. It is one step of undo and one event; a refusal changes nothing.
+   *  elements. It is one step of undo and one event; a refusal changes nothing, but for 22 as of `put`.
    *  @param {Cursor} cursor
    *  @param {number} index
    *  @param {number} count
@@ -880,7 +892,6 @@ export class Replica {
 }
 
 const MANY = 256; // operations that an empty replica takes at once
-const MOST_AT_ONCE = 1024; // changes of one request
 /** @type {import("./history.mjs").Before} */
 const NOTHING_BEFORE = { remains: [], fresh: 0 };
 const MOST_SINGLY = 256; // so many elements are asked for one by one, and not with the whole list

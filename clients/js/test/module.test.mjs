@@ -241,6 +241,82 @@ test("what stops within changed nothing, and what is logged is there again", asy
   equal(me.plain([0]).k, undefined);
 });
 
+/** What opens engines in a memory of their own, and what makes the module refuse the allocation after so many there. */
+function refusing() {
+  const { Instance } = WebAssembly;
+  /** @type {any} */
+  let made;
+  const noted = function (/** @type {WebAssembly.Module} */ module) { return (made = new Instance(module, {})); };
+  Object.assign(WebAssembly, { Instance: noted });
+  try {
+    const open = opener(new WebAssembly.Module(readFileSync(MODULE)));
+    return { open, refuse: (/** @type {number} */ count) => made.exports.heap_refuse(BigInt(count)) };
+  } finally {
+    Object.assign(WebAssembly, { Instance });
+  }
+}
+
+/** Does something with each allocation of the module refused in turn, until none is refused any more.
+ *  @param {(refused: number) => string} work Returns how it went: "done" where nothing was refused.
+ *  @returns {Record<string, number>} How often it went so. */
+function eachRefused(work) {
+  /** @type {Record<string, number>} */
+  const counts = {};
+  for (let [refused, done] = [1, 0]; done < 20; refused++) {
+    const how = work(refused);
+    counts[how] = (counts[how] ?? 0) + 1;
+    done = how === "done" ? done + 1 : 0;
+  }
+  return counts;
+}
+
+const TEXTS = Array.from({ length: 20 }, (_, at) => `${at} `.padEnd(4000, "long "));
+
+test("where memory lacks, a splice makes what it says, and the engine isn't broken", { skip: tooLong }, () => {
+  const counts = eachRefused((refused) => {
+    const { open, refuse } = refusing();
+    const me = new Replica("ada", "d", { engine: open });
+    me.put([0], { list: ["x"] });
+    const stored = me.lines();
+    me.listen(({ lines }) => stored.push(...lines));
+    refuse(refused);
+    let how = "done";
+    try {
+      me.splice([0, "list"], 1, 0, TEXTS);
+    } catch (/** @type {any} */ error) {
+      equal(error.message, "refused: 22 no-memory");
+      how = me.count === 3 ? "none made" : "some made";
+    }
+    refuse(0);
+    deepEqual([stored.length, me.lines()], [me.count + 1, stored]);
+    deepEqual(me.plain([0, "list"]), ["x", ...TEXTS.slice(0, me.count - 3)]);
+    return how;
+  });
+  ok(counts["none made"] > 0 && counts["some made"] > 0, JSON.stringify(counts));
+});
+
+test("a run whose text met no memory stops the engine, which is opened again as before it", { skip: tooLong }, () => {
+  const counts = eachRefused((refused) => {
+    const { open, refuse } = refusing();
+    const engine = new LastingEngine(open, "ada", []);
+    engine.logged(engine.ask(["assign", [0, "l"], []]).line ?? "");
+    refuse(refused);
+    let [how, made] = ["refused", 0];
+    try {
+      const { reply, line = "" } = engine.ask(["inserts", [0, "l", 0], TEXTS]);
+      if (reply[0] === "applied") [how, made] = [reply[1] === TEXTS.length ? "done" : "cut", reply[1]];
+      equal(line === "" ? 0 : line.split("\n").length, made);
+    } catch (error) {
+      if (isBroken(error)) how = "broken";
+      else ok(error instanceof Refused);
+    }
+    refuse(0);
+    deepEqual(engine.ask(["front"]).reply, ["front", [["ada", 1 + made]]]);
+    return how;
+  });
+  ok(counts.broken > 0 && counts.cut > 0, JSON.stringify(counts));
+});
+
 test("a freed replica says so, and not that memory lacks", async () => {
   const me = await openReplica("ada", "d");
   me.free();

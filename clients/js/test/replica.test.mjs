@@ -5,6 +5,7 @@ import { createHash } from "node:crypto";
 import { test } from "node:test";
 import { Conflict, Counter, Refused, Replica, freshName, plain, print } from "../index.mjs";
 import { engines } from "./engines.mjs";
+import { byteLength } from "../values.mjs";
 import { RandomSession } from "./random_sessions.mjs";
 import { answered, cpuOf, slowness, tooLong } from "./support.mjs";
 
@@ -47,32 +48,42 @@ for (const [title, engine] of engines) {
     deepEqual(me.place([0, "text", id, "k"]), [0, "text", id, "k"]);
   });
 
-  test(`${title}: a paste is a request for each 1,024 characters, and one step of undo`, () => {
-    /** @type {string[]} */
-    const words = [];
+  /** A replica, and the bytes of the answers to each of these requests, in order.
+   *  @param {string[]} words */
+  const measured = (...words) => {
+    /** @type {number[]} */
+    const sizes = [];
     const me = new Replica("ada", "d", {
       engine: (name, lines) => {
         const opened = engine(name, lines);
         const { ask } = opened;
-        opened.ask = (request) => (words.push(request[0]), ask.call(opened, request));
+        opened.ask = (request) => {
+          const answer = ask.call(opened, request);
+          if (words.includes(request[0])) sizes.push(byteLength(`${print(answer.reply)}\n${answer.line}\n`));
+          return answer;
+        };
         return opened;
       },
     });
-    const asked = (/** @type {string} */ word) => words.filter((it) => it === word).length;
+    return { me, sizes };
+  };
+
+  test(`${title}: a paste is a request for some 600 characters, and one step of undo`, () => {
+    const { me, sizes } = measured("insert", "inserts", "delete", "deletes");
     me.put([0], { text: [..."<>"], note: "x" });
-    words.length = 0;
+    sizes.length = 0;
     const events = /** @type {number[]} */ ([]);
     const model = [..."<>"];
     me.listen(({ lines }) => events.push(lines.length));
     me.watch([0, "text"], (splices) => apply(model, splices));
     const pasted = Array.from({ length: 2500 }, (_, at) => String.fromCodePoint(0x4e00 + at)).join("");
     const ids = me.splice([0, "text"], 1, 0, pasted);
-    deepEqual([asked("inserts"), asked("insert")], [3, 0]);
+    equal(sizes.splice(0).length, 4);
     deepEqual(ids, Array.from({ length: 2500 }, (_, at) => [6 + at, "ada"])); // behind {}, [], two and "x"
     deepEqual([me.text([0, "text"]), model.join(""), events], [`<${pasted}>`, `<${pasted}>`, [2500]]);
     equal(me.indexOf([0, "text", ids[1999]]), 2001);
     me.splice([0, "text"], 1, 2498, "");
-    deepEqual([asked("deletes"), asked("delete")], [3, 0]);
+    equal(sizes.splice(0).length, 4);
     deepEqual([me.text([0, "text"]), model.join("")], [`<${pasted.slice(-2)}>`, `<${pasted.slice(-2)}>`]);
     throws(() => me.splice([0, "text"], 1, 4, "abc"), { number: 9 });
     ok(me.undo());
@@ -82,6 +93,32 @@ for (const [title, engine] of engines) {
     const other = replicaOf("bob");
     other.deliverAll(me.lines().slice(1));
     equal(other.text([0, "text"]), `<${pasted}>`);
+  });
+
+  test(`${title}: no answer to a run has more bytes than the library keeps room for`, () => {
+    const { me, sizes } = measured("inserts", "deletes");
+    const names = Array.from({ length: 40 }, (_, at) => `${at}-`.padEnd(32, "z"));
+    for (const name of names) {
+      const other = replicaOf(name);
+      other.deliverAll(me.operations());
+      other.assign([0, name], 1);
+      me.deliverAll(other.operations());
+    }
+    const deep = [0, ...Array.from({ length: 12 }, (_, at) => `${at}"`.padEnd(80, "\u0001é"))];
+    me.assign(deep, []);
+    // Held until a run makes an operation that it has seen. From then on its name is in the front.
+    const seen = me.front().map(([name, counter]) => [name, name === "ada" ? 100 : counter]);
+    equal(me.deliver(print(["op", [101, "y".repeat(32)], seen, [[["m", 0]], "late"], ["assign", 1]]))[0], "held");
+    const values = Array.from({ length: 300 }, (_, at) =>
+      ["x", 2 ** 53 - 1, 2n ** 62n, null, {}, "\u0001".repeat(4096), "é\n".repeat(500), "x".repeat(4096), "😀"][at % 9]);
+    const ids = me.splice(deep, 0, 0, values);
+    deepEqual(me.plain(deep), values);
+    me.splice(deep, 1, 298, []);
+    deepEqual(me.items(deep).map(([id]) => id), [ids[0], ids[299]]);
+    ok(me.plain([0, "late"]) === 1 && me.undo());
+    deepEqual(me.plain(deep), values);
+    ok(Math.max(...sizes) <= 65_536, String(sizes));
+    ok(sizes.length < 1.3 * sizes.reduce((sum, it) => sum + it) / 65_536, `${sizes.length} requests: ${sizes}`);
   });
 
   test(`${title}: chains tell whose operations differ`, () => {

@@ -99,14 +99,15 @@ export class Replica {
     add(cursor: import("./operations.mjs").Cursor, number: number | bigint): import("./operations.mjs").Id;
     /** Puts a nested value, as `plain` gives it: {} or [] first, and then what is in it, one operation
      *  each. It is one step of undo and one event. The whole value is checked before: a refusal
-     *  changes nothing. Counters are added; `undefined` in objects and arrays is left out.
+     *  changes nothing. Counters are added; `undefined` in objects and arrays is left out. Where memory
+     *  lacks in the middle it throws Refused (22), and what was made by then stays: `undo` takes it back.
      *  @param {Cursor} cursor
      *  @param {any} value
      *  @returns {Id[]} */
     put(cursor: import("./operations.mjs").Cursor, value: any): import("./operations.mjs").Id[];
     /** As Array.splice: behind the first `index` elements it inserts the values, nested or not, and
      *  deletes `count` others. A string counts as its characters. Returns the ids of the new
-     *  elements. It is one step of undo and one event; a refusal changes nothing.
+     *  elements. It is one step of undo and one event; a refusal changes nothing, but for 22 as of `put`.
      *  @param {Cursor} cursor
      *  @param {number} index
      *  @param {number} count

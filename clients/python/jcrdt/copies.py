@@ -126,7 +126,7 @@ class Own:
 
 def is_change(request: Any) -> bool:
     """Whether a request makes an operation."""
-    return isinstance(request, list) and request[:1] in ([word] for word in ("assign", "insert", "delete", "add"))
+    return isinstance(request, list) and request[:1] in ([word] for word in ("assign", "insert", "delete", "add", "inserts", "deletes"))
 
 
 def is_saying(operation: Operation) -> bool:

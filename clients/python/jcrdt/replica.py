@@ -27,14 +27,13 @@ from .later import Later
 from .protocol import NUMBERS
 from .remaking import ROUNDS, How, Remade, Remaking
 from .replies import chains_in
+from .runs import LINES, ROOM, cut, length_of
 from .session import Session
 from .store import Store, fresh_name
 from .syncing import Exchange
 from .wire import Chain, Cursor, Front, Id, Lost, Operation, Refused, Renewed, covers
 
-# The first room for the text of an answer, in bytes.
-ROOM = 65_536
-HELD_FULL = NUMBERS["held-full"]
+HELD_FULL, AT_HEAD = NUMBERS["held-full"], NUMBERS["at-head"]
 
 
 class _Handle(Structure):
@@ -315,24 +314,67 @@ class Replica:
         return found
 
     def insert_all(self, cursor: Cursor, values: Sequence[Any]) -> List[Id]:
-        """Inserts scalars, {} and [] by one request, the first one behind the element or head at the cursor, each other one behind
-        the one before. Where one is refused none is inserted. Raises MemoryError where memory lacks in the middle: what was inserted
-        by then stays."""
-        return self._changed_all(len(values), "inserts", cursor, list(values)) if values else []
+        """Inserts scalars, {} and [], the first one behind the element or head at the cursor, each other one behind the one before: by one
+        request, or by a few where their lines are long. Where one is refused none is inserted. Raises MemoryError where memory lacks in
+        the middle: what was inserted by then stays."""
+        made: List[Id] = []
+        if not values:
+            return made
+        with self._lock:
+            path = self.place(cursor)[0]
+            runs = self._runs(path, values)
+            if len(runs) > 1:
+                self._check_room(len(values))
+            for begin, end in runs:
+                behind = [[path, made[-1]]] if made else cursor
+                self._make(made, end, len(values), "inserts", behind, list(values[begin:end]))
+        return made
 
     def delete_all(self, cursor: Cursor, count: int) -> List[Id]:
-        """Deletes so many elements of a list by one request, the first one at the cursor, which ends with an index. Where the list
-        has fewer none is deleted. Raises MemoryError as `insert_all`."""
-        return self._changed_all(count, "deletes", cursor, count) if count else []
+        """Deletes so many elements of a list, the first one at the cursor, which ends with an index: by one request, or by a few where their
+        lines are long. Where the list has fewer none is deleted. Raises MemoryError as `insert_all`."""
+        made: List[Id] = []
+        if not count:
+            return made
+        with self._lock:
+            most = max(1, LINES // self._length_of(self.place(cursor)[0], ["delete"]))
+            if count > most:
+                self._check_room(count)
+                if len(cursor) > 1 and wire.is_integer(cursor[-1]):
+                    self.place([*cursor[:-1], cursor[-1] + count - 1])
+            while not made or len(made) < count:
+                some = min(most, count - len(made))
+                self._make(made, len(made) + some, count, "deletes", cursor, some)
+        return made
 
-    def _changed_all(self, count: int, *request: Any) -> List[Id]:
-        reply, made = self.answer(wire.encoded(list(request)))
-        if made is None:
+    def _runs(self, path: List[Any], values: Sequence[Any]) -> List[Tuple[int, int]]:
+        """The runs by which values are inserted into a list. One with a value that can't be inserted is refused as a whole."""
+        if not all(map(wire.is_scalar_or_empty, values)):
+            return [(0, len(values))]
+        length = self._length_of(path, ["insert", 0])
+        return list(cut([length + len(wire.encoded(it)) for it in values]))
+
+    def _length_of(self, path: List[Any], mutation: List[Any]) -> int:
+        others = [*self.front(), *(name for (_, name), _ in self.ask("held")[0])]
+        return length_of(self.name, others, path, mutation)
+
+    def _check_room(self, count: int) -> None:
+        """Raises Refused (18) where the log has no room for so many changes. A head can't be deleted, and what is refused for that had room."""
+        try:
+            self.ask("deletes", [[[["l", 0]], 1]], count)
+        except Refused as refused:
+            if refused.number != AT_HEAD:
+                raise
+
+    def _make(self, made: List[Id], due: int, count: int, *request: Any) -> None:
+        """Makes some of so many changes by one request, and adds their ids to those that were made before: then there are as many as are
+        due."""
+        reply, lines = self.answer(wire.encoded(list(request)))
+        if lines is None and not made:
             raise Refused(*wire.decoded_reply(reply)[1:])
-        ids: List[Id] = [wire.decoded(it.encode())[1] for it in made.split("\n")]
-        if len(ids) < count:
-            raise MemoryError(f"{len(ids)} of {count} changes were made")
-        return ids
+        made += [wire.decoded(it.encode())[1] for it in (lines.split("\n") if lines else ())]
+        if len(made) < due:
+            raise MemoryError(f"{len(made)} of {count} changes were made")
 
     def put(self, cursor: Cursor, value: Any) -> None:
         """Assigns a nested value, one operation for each part. Raises what `wire.checked_value` raises before anything is changed."""

@@ -9,11 +9,11 @@ from typing import Any, Callable, Iterator, List, Tuple
 
 import pytest
 
-from conftest import SECONDS
+from conftest import SECONDS, takes_long
 from test_session import forked
 
 import jcrdt
-from jcrdt import replica as replica_module
+from jcrdt import replica as replica_module, wire
 from jcrdt.replica import Replica, RefusedLine
 from jcrdt.wire import Refused
 
@@ -79,6 +79,77 @@ def test_several_elements_are_inserted_and_deleted_at_once(ada: Replica) -> None
     assert ada.lines() == lines
     with Replica("ada-1", lines) as again:
         assert again.plain() == ada.plain()
+
+
+class _Measured:
+    """The library, of which the bytes of each run's answer are noted. It has no memory for one that is longer than the room that it keeps."""
+
+    def __init__(self) -> None:
+        self._library = replica_module.load()
+        self.lengths: List[int] = []
+
+    def __getattr__(self, name: str) -> Any:
+        return getattr(self._library, name)
+
+    def jcrdt_ask(self, handle: Any, line: bytes, *words: Any) -> int:
+        length: int = self._library.jcrdt_ask(handle, line, *words)
+        if not line.startswith((b'["inserts"', b'["deletes"')):
+            return length
+        self.lengths.append(length)
+        return length if length <= replica_module.ROOM else 0
+
+
+def test_a_run_is_cut_where_its_answer_would_be_too_long() -> None:
+    library = _Measured()
+    with Replica("ada-1", library=library) as ada: # type: ignore[arg-type]
+        for at in range(40):
+            name = f"{at}-".ljust(32, "z")
+            ada.deliver(["op", [1, name], [], [[["m", 0]], name], ["assign", 1]])
+        deep = [0, *(f'{at}"' + "\1é" * 25 for at in range(12))]
+        ada.assign(deep, [])
+        # Held until a run makes an operation that it has seen. From then on its name is in the front.
+        late = ["op", [51, "y" * 32], [*wire.pairs_of({**ada.front(), "ada-1": 50})], [[["m", 0]], "late"], ["assign", 1]]
+        assert ada.deliver(late) == 0
+        kinds = ["x", 2**63 - 1, None, {}, "\1" * 4096, "é\n\u2028" * 300, "x" * 4096, "😀"]
+        values = [kinds[at % 8] for at in range(300)]
+        ids = ada.insert_all([*deep, 0], values)
+        assert 10 < len(library.lengths) < 1.3 * sum(library.lengths) / replica_module.ROOM
+        assert [ids, ada.plain(deep)] == [[it for it, _ in ada.ask("items", deep)[0]], values]
+        assert ada.plain([0, "late"]) == 1
+        assert len(ada.delete_all([*deep, 2], 298)) == 298
+        assert [it for it, _ in ada.ask("items", deep)[0]] == [ids[0], ids[-1]]
+        assert [wire.decoded(it.encode()) for it in ada.made()] == [it for it in ada.operations() if it[1][1] == "ada-1"]
+        with Replica("ada-1", ada.lines()) as again:
+            assert again.plain() == ada.plain()
+
+
+def test_a_run_of_several_requests_is_refused_as_a_whole(ada: Replica) -> None:
+    ada.put([0, "l"], ["x" * 4096] * 40)
+    lines = ada.lines()
+    refused: List[Tuple[int, Callable[[], Any]]] = [
+        (9, lambda: ada.delete_all([0, "l", 1], 2000)), (18, lambda: ada.delete_all([0, "l", 2], 2**63)),
+        (10, lambda: ada.delete_all([0, "l", 0], 10)), (2, lambda: ada.delete_all([0, "l", 1], -1)),
+        (6, lambda: ada.insert_all([0, "l", 1], ["x" * 4096] * 40 + ["x" * 4097])),
+        (9, lambda: ada.insert_all([0, "l", 41], ["x" * 4096] * 40)), (11, lambda: ada.insert_all([0, "l"], ["x" * 4096] * 40)),
+    ]
+    for number, change in refused:
+        with pytest.raises(Refused) as raised:
+            change()
+        assert raised.value.number == number
+    with pytest.raises(ValueError):
+        ada.insert_all([0, "l", 1], ["x"] * 3000 + [float("nan")])
+    assert ada.lines() == lines
+
+
+@takes_long
+def test_a_run_for_which_a_log_has_no_room_is_refused_as_a_whole() -> None:
+    line = '["op",[{},"ada-1"],[["ada-1",{}]],[[["m",0]],"k"],["assign",1]]'.format
+    with Replica("ada-1", [FIRST, *(line(at + 1, at) for at in range(1, 97_000))]) as ada:
+        ada.put([0, "l"], ["x"])
+        for change in (lambda: ada.insert_all([0, "l", 0], ["x"] * 2999), lambda: ada.delete_all([0, "l", 1], 2999)):
+            with pytest.raises(Refused, match="18 log-full"):
+                change()
+        assert len(ada.insert_all([0, "l", 0], ["x"] * 2998)) == 2998
 
 
 def test_the_index_of_an_element(ada: Replica) -> None:

@@ -19,7 +19,7 @@ from conftest import IS_SHORT, SECONDS, TOP, Server, of_either_name
 
 import jcrdt
 from jcrdt import replica as replica_module
-from jcrdt.copies import Clock, Own
+from jcrdt.copies import Clock, Own, is_saying
 from jcrdt.replica import Replica
 from jcrdt.session import Session
 from jcrdt.store import Store, fresh_name
@@ -205,6 +205,20 @@ def test_votes_alike_in_the_original_and_in_copies_all_count(client: Session, tm
     programs[first].sync(client)
     votes = 1 + 2 + 1 + 3 * 3
     check(programs, client, ["base"], votes)
+
+
+@of_either_name
+@pytest.mark.parametrize("run", [lambda me: me.insert_all([0, "list", 1], ["x", "y"]), lambda me: me.delete_all([0, "list", 1], 2)])
+def test_a_copy_says_so_before_a_run(tmp_path: Path, run: Callable[[Replica], Any]) -> None:
+    me = Program(tmp_path / "me")
+    me.me.put([0, "list"], ["a", "b"])
+    me.me.save()
+    copy = me.copied(tmp_path / "copy")
+    run(copy.me)
+    copy.me.assign([0, "k"], 1)
+    assert [is_saying(it) for it in copy.me.operations(me.me.front())] == [True, False, False, False]
+    copy.close()
+    me.close()
 
 
 @of_either_name
