@@ -1,5 +1,5 @@
 -- The totals of documents, one after another.
-use Rattle.std.proofs.Common.{◌≡◌, ℕ, zero, suc, ◌+◌, List, [], ◌∷◌, ◌++◌, length, map, Option, ◌⊎◌, refl, sym, subst, ◌∙◌, arith}
+use Rattle.std.proofs.Common.{◌≡◌, ℕ, zero, suc, ◌+◌, List, [], ◌∷◌, ◌++◌, length, map, Option, None, ◌⊎◌, refl, sym, ap, subst, ◌∙◌, arith}
 use Rattle.std.specs.List.{flat_map}
 use Rattle.share_ledger.specs.Begun.{Origin}
 use Rattle.doc_api.specs.Words.{Id}
@@ -7,7 +7,7 @@ use Rattle.doc_rules.specs.Seats.{Seat}
 use Rattle.locked_doc.specs.Locked.{Locked}
 use Rattle.locked_doc.specs.Followed.{Followed}
 use Rattle.locked_doc.specs.declared.gather.Totals.{Totals}
-use Rattle.server_core.specs.Sums.{AreBooksFrom, AreTotals, AreTotalsFrom, Differs, ends_behind, first_end, ids_read, later_ends}
+use Rattle.server_core.specs.Sums.{AreBooksFrom, AreLeft, AreTotals, AreTotalsFrom, Differs, ends_behind, first_end, ids_read, later_ends}
 
 pub behind-next : (k : ℕ) (sessions : List (List (Option Seat))) → map later_ends (ends_behind k sessions) ≡ ends_behind (suc k) sessions
 behind-next zero sessions = refl
@@ -18,6 +18,12 @@ pub none_total : (origin : ℕ → Origin) (n : ℕ) (sessions : List (List (Opt
     → AreTotalsFrom origin n sessions (ids_read books) totals
 none_total origin n sessions books totals no_books no_totals =
     subst (AreTotalsFrom origin n sessions (ids_read books)) (sym no_totals) (subst (λ bs. AreTotalsFrom origin n sessions (ids_read bs) []) (sym no_books) tt)
+
+-- and nothing is left of nothing
+pub none_left : (totals : List Totals) (taken : Option (List Seat)) (left : List (List (Option Seat))) → totals ≡ [] → taken ≡ None → left ≡ []
+    → AreLeft (ends_behind (length totals) []) taken left
+none_left totals taken left no_totals none nothing =
+    subst (λ ends. AreLeft (ends_behind (length totals) []) ends left) (sym none) (nothing ∙ sym (ap (λ ts. ends_behind (length ts) []) no_totals))
 
 -- one more behind them
 pub one_more : (origin : ℕ → Origin) (n : ℕ) (sessions : List (List (Option Seat))) (read : List (List Id)) (totals : List Totals) (ids : List Id) (t : Totals)
