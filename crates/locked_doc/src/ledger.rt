@@ -1,6 +1,6 @@
 //! A table of counters, and the documents made from it.
 ghost use Rattle.std.specs.Prelude.{◌≡◌, ◌⊎◌, ◌-◌, ◌+◌, ◌≤◌, ℕ, [], length, replicate, IfOk, IfErr};
-ghost use Rattle.std.specs.Prelude.{OnOk};
+ghost use Rattle.std.specs.Prelude.{OnOk, false};
 ghost use Rattle.crdt_rules.specs.Log.{IsGood};
 ghost use Rattle.doc_rules.specs.Cause.{IsFirstMisfit};
 ghost use Rattle.doc_rules.specs.Document.{new_document};
@@ -48,7 +48,7 @@ fn with_counters<M: Marker>(
     requires named { MayBeNamed (M.origin ledgers.number) replica.name }
     ensures made { IfOk result (λ doc. (doc.number ≡ ledgers.number)
         × (doc.document ≡ document_of replica (replicate (length replica.log) 0) ledgers.seats 0
-        (length replica.log))) }
+        (length replica.log)) × (doc.followed ≡ false)) }
     ensures memory { IfErr result (λ cause. cause ≡ Refusal.NoMemory) }
 {
     match LockedDoc::new(alloc, replica, ledgers) {
@@ -113,7 +113,8 @@ impl<M: Marker> Ledger<M> {
         requires begun { (M.origin self.old).log ≡ [] }
         requires named { MayBeNamed (M.origin self.old) name.now }
         ensures made { IfOk result
-            (λ doc. (doc.number ≡ self.old) × (doc.document ≡ new_document name.now [] seats)) }
+            (λ doc. (doc.number ≡ self.old) × (doc.document ≡ new_document name.now [] seats)
+            × (doc.followed ≡ false)) }
         ensures memory { IfErr result (λ cause. cause ≡ Refusal.NoMemory) }
         ensures next { IfOk result (λ doc. self.new ≡ self.old + 1) }
         ensures room { greatest_number - self.old ≤ (greatest_number - self.new) + 1 }
@@ -137,7 +138,7 @@ impl<M: Marker> Ledger<M> {
         requires begun { operations.now ≡ (M.origin self.old).log }
         requires named { MayBeNamed (M.origin self.old) name.now }
         ensures made { IfOk result (λ doc. (doc.number ≡ self.old)
-            × (doc.document ≡ new_document name.now operations.now seats)) }
+            × (doc.document ≡ new_document name.now operations.now seats) × (doc.followed ≡ false)) }
         ensures good { OnOk result (IsGood operations.now) }
         ensures err { IfErr result (λ cause. (cause ≡ Refusal.NoMemory)
             ⊎ ((place : ℕ) × IsFirstMisfit operations.now place cause)) }
@@ -163,7 +164,7 @@ impl<M: Marker> Ledger<M> {
         requires begun { log.operations ≡ (M.origin self.old).log }
         requires named { MayBeNamed (M.origin self.old) name.now }
         ensures made { IfOk result (λ doc. (doc.number ≡ self.old)
-            × (doc.document ≡ new_document name.now log.operations seats)) }
+            × (doc.document ≡ new_document name.now log.operations seats) × (doc.followed ≡ false)) }
         ensures memory { IfErr result (λ cause. cause ≡ Refusal.NoMemory) }
         ensures next { IfOk result (λ doc. self.new ≡ self.old + 1) }
         ensures room { greatest_number - self.old ≤ (greatest_number - self.new) + 1 }

@@ -3,6 +3,7 @@
 //! that are out of memory.
 mod cases;
 mod causes;
+mod copying;
 mod counters;
 mod foreign;
 mod gathering;

@@ -1,9 +1,10 @@
-ghost use Rattle.std.specs.Prelude.{◌≡◌, ℕ, ◌+◌, ◌^◌, ◌<◌, ◌≤◌, [], ◌++◌};
+ghost use Rattle.std.specs.Prelude.{◌≡◌, ℕ, ◌+◌, ◌^◌, ◌<◌, ◌≤◌, [], ◌++◌, length, map};
 ghost use Rattle.share_ledger.specs.Begun.{Origin, empty_origin};
 ghost use Rattle.share_ledger.specs.Counters.{seat_counter, counter_number, AreOfOneCounter};
 
 use crate::halves::{Half, Rest};
 use lamport_id::Id;
+use op_core::Operation;
 use std::marker::{Brand, Model, PhantomData};
 
 /// Which table a counter is of. A type that is a marker ties the books of a program to its shares:
@@ -57,8 +58,8 @@ impl<M: Marker> Model for Table<M> {
     ghost invariant = { λ t. t.rest.table ≡ M.name };
 }
 
-/// The half of a counter that a document keeps. It can't be copied, and it changes by `credit` and
-/// `acknowledge` alone. The ids in it take no bytes: only contracts see them.
+/// The half of a counter that a document keeps. It can't be copied, and it changes by `credit`,
+/// `acknowledge` and `follow` alone. The ids in it take no bytes: only contracts see them.
 #[derive(Drop)]
 pub struct Book<M: Marker> {
     number: u16,
@@ -81,8 +82,8 @@ impl<M: Marker> Model for Book<M> {
         × (b.half.count ≡ b.count) };
 }
 
-/// The half of a counter that a seat keeps. It can't be copied, and it changes by `Book::credit`
-/// and `Book::acknowledge` alone. The ids in it take no bytes.
+/// The half of a counter that a seat keeps. It can't be copied, and it changes by `Book::credit`,
+/// `Book::acknowledge` and `Book::follow` alone. The ids in it take no bytes.
 #[derive(Drop)]
 pub struct Share<M: Marker> {
     number: u16,
@@ -204,6 +205,23 @@ impl<M: Marker> Book<M> {
         ensures agree { self.old ≡ share.old }
     {
         self.half.acknowledge(&mut share.half, ids);
+    }
+
+    /// Adds the ids of operations to both halves of one counter, and how many they are to both
+    /// counts. It ensures that the halves were equal before. The ids take no work at run time.
+    pub fn follow(&mut self, share: &mut Share<M>, operations: &[Operation])
+        requires counter { AreOfOneCounter self.old share.old }
+        requires fits { self.old.count + length operations.now < 2 ^ 64 }
+        ensures book { self.new ≡ seat_counter self.old.number self.old.seat
+            (self.old.count + length operations.now) (self.old.ids
+            ++ map (λ op. op.id) operations.now) }
+        ensures share { share.new ≡ seat_counter share.old.number share.old.seat
+            (share.old.count + length operations.now) (share.old.ids
+            ++ map (λ op. op.id) operations.now) }
+        ensures agree { self.old ≡ share.old }
+    {
+        self.half.follow(&mut share.half, operations);
+        self.credit(share, operations.len() as u64);
     }
 
     /// Tells that both halves of one counter have one count and the same ids. At run time it does

@@ -2,14 +2,12 @@
 ghost use Rattle.std.specs.Prelude.{◌≡◌};
 ghost use Rattle.share_ledger.specs.Begun.{BeginEmpty};
 
-use super::samples::{THREE, ended_so, shared_documents};
+use super::samples::{Served, THREE, ended_so, shared_documents};
 use super::sessions::logged_first;
 use crate::checks::{holds, replies_are};
 use json_scalar::Refusal;
 use server_core::doubles::Script;
-use server_core::{
-    Gathered, OpenGate, Pace, Progress, SharedDocuments, Side, Signalled, run_sessions,
-};
+use server_core::{OpenGate, Pace, Progress, SharedDocuments, Side, Signalled, run_sessions};
 use session_rules::Ending;
 use share_ledger::{Blank, Marker};
 use std::alloc::Global;
@@ -117,7 +115,7 @@ fn paced<M: Marker + Send + Sync, R: Threads + Wait + Sync>(
     blank: Blank,
     row: &Row,
     replies: &Mutex<Vec<u8>>,
-) -> Result<(Gathered, bool), Refusal>
+) -> Result<(Served, bool), Refusal>
     requires blank { blank ≡ M.name }
     requires begun { BeginEmpty M.origin }
 {
@@ -132,7 +130,7 @@ fn paced<M: Marker + Send + Sync, R: Threads + Wait + Sync>(
     };
     let (gathered, side) = run_sessions(rt, alloc, shared, scripts, &OpenGate, side);
     match gathered {
-        Ok(gathered) => Ok((gathered, side.early)),
+        Ok(gathered) => Ok((Served::of(gathered), side.early)),
         Err(ungathered) => Err(ungathered.refusal),
     }
 }

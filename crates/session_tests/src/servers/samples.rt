@@ -92,6 +92,25 @@ pub fn shared_documents<M: Marker>(
     })
 }
 
+/// What sessions did, without what a copier reads.
+#[derive(Drop)]
+pub struct Served {
+    pub endings: Vec<Vec<Option<Ending>>>,
+    pub totals: Vec<Totals>,
+}
+
+impl Served {
+    /// What was gathered, of which the copiers' books are dropped.
+    pub fn of<M: Marker>(gathered: Gathered<M>) -> Served {
+        let Gathered {
+            endings,
+            totals,
+            followed: _,
+        } = gathered;
+        Served { endings, totals }
+    }
+}
+
 /// What the sessions of these connections did at new documents, of so many seats each, and what the
 /// side that ran beside them became.
 pub fn serve_beside<M: Marker + Send + Sync, R: Threads + Wait + Sync, G: Gate + Sync, S: Side<M>>(
@@ -103,7 +122,7 @@ pub fn serve_beside<M: Marker + Send + Sync, R: Threads + Wait + Sync, G: Gate +
     scripts: Vec<Script<'_, R>>,
     gate: &G,
     side: S,
-) -> Result<(Gathered, S), Refusal>
+) -> Result<(Served, S), Refusal>
     requires blank { blank ≡ M.name }
     requires begun { BeginEmpty M.origin }
     requires few { length documents.now ≤ greatest_number }
@@ -111,7 +130,7 @@ pub fn serve_beside<M: Marker + Send + Sync, R: Threads + Wait + Sync, G: Gate +
     let shared = shared_documents::<M>(alloc, blank, documents, seats)?;
     let (gathered, side) = run_sessions(rt, alloc, shared, scripts, gate, side);
     match gathered {
-        Ok(gathered) => Ok((gathered, side)),
+        Ok(gathered) => Ok((Served::of(gathered), side)),
         Err(ungathered) => Err(ungathered.refusal),
     }
 }
@@ -125,7 +144,7 @@ fn serve<M: Marker + Send + Sync, R: Threads + Wait + Sync, G: Gate + Sync>(
     seats: u16,
     scripts: Vec<Script<'_, R>>,
     gate: &G,
-) -> Result<Gathered, Refusal>
+) -> Result<Served, Refusal>
     requires blank { blank ≡ M.name }
     requires begun { BeginEmpty M.origin }
     requires few { length documents.now ≤ greatest_number }
@@ -142,7 +161,7 @@ pub fn serve_all<R: Threads + Wait + Sync, G: Gate + Sync>(
     seats: u16,
     scripts: Vec<Script<'_, R>>,
     gate: &G,
-) -> Result<Gathered, Refusal>
+) -> Result<Served, Refusal>
     requires { length documents.now ≤ greatest_number }
 {
     serve::<Brand, R, G>(rt, alloc, Blank::new(), documents, seats, scripts, gate)
@@ -154,7 +173,7 @@ pub fn run_alone<R: Threads + Wait + Sync>(
     alloc: Global,
     documents: &[&str],
     input: &[u8],
-) -> Result<(Gathered, Vec<u8>), Refusal>
+) -> Result<(Served, Vec<u8>), Refusal>
     requires { length documents.now ≤ greatest_number }
 {
     let replies = Mutex::new(Vec::new(alloc));
@@ -176,7 +195,7 @@ pub fn replies_alone<R: Threads + Wait + Sync>(
 }
 
 /// Whether each thread served one session, and these are the endings.
-pub fn ended_so(gathered: &Gathered, endings: &[Option<Ending>]) -> bool {
+pub fn ended_so(gathered: &Served, endings: &[Option<Ending>]) -> bool {
     gathered.endings.len() == endings.len()
         && gathered
             .endings
@@ -188,7 +207,7 @@ pub fn ended_so(gathered: &Gathered, endings: &[Option<Ending>]) -> bool {
 /// What two sessions at new documents `a` and `b` did, and the replies to each.
 #[derive(Drop)]
 pub struct Ran {
-    pub gathered: Gathered,
+    pub gathered: Served,
     pub first: Vec<u8>,
     pub second: Vec<u8>,
 }
@@ -231,7 +250,7 @@ pub fn run_two<'x, R: Threads + Wait + Sync, G: Gate + Sync>(
 }
 
 /// The totals of the first of two documents are these, and those of the second are zeros.
-pub fn first_did<R: Abort>(rt: &R, case: &str, gathered: &Gathered, all: u64, shares: &[u64]) {
+pub fn first_did<R: Abort>(rt: &R, case: &str, gathered: &Served, all: u64, shares: &[u64]) {
     let is = match gathered.totals.as_slice() {
         [first, second] => did(first, all, shares) && second.logged == 0,
         _ => false,

@@ -2,11 +2,11 @@
 ghost use Rattle.std.specs.Prelude.{◌≡◌};
 ghost use Rattle.share_ledger.specs.Begun.{BeginEmpty};
 
-use super::samples::{NO_FAULT, THREE, TWO, first_did, run_two, serve_all, serve_beside};
+use super::samples::{NO_FAULT, Served, THREE, TWO, first_did, run_two, serve_all, serve_beside};
 use crate::checks::holds;
 use json_scalar::Refusal;
 use server_core::doubles::Script;
-use server_core::{Gathered, OpenGate, SharedDocuments, Side, Signalled};
+use server_core::{OpenGate, SharedDocuments, Side, Signalled};
 use session_rules::Ending;
 use share_ledger::{Blank, Marker};
 use std::alloc::{AllocError, Global};
@@ -179,7 +179,7 @@ fn watched<M: Marker + Send + Sync, R: Threads + Wait + Sync>(
     rt: &R,
     alloc: Global,
     blank: Blank,
-) -> Result<(Gathered, Watching), Refusal>
+) -> Result<(Served, Watching), Refusal>
     requires blank { blank ≡ M.name }
     requires begun { BeginEmpty M.origin }
 {

@@ -2,12 +2,12 @@
 ghost use Rattle.std.specs.Prelude.{◌≡◌};
 ghost use Rattle.share_ledger.specs.Begun.{BeginEmpty};
 
-use super::samples::{THREE, first_did, serve_beside, waits_in_vain};
+use super::samples::{Served, THREE, first_did, serve_beside, waits_in_vain};
 use super::sessions::logged_first;
 use crate::checks::holds;
 use json_scalar::Refusal;
 use server_core::doubles::Script;
-use server_core::{Gate, Gathered, SharedDocuments, Side, Signalled};
+use server_core::{Gate, SharedDocuments, Side, Signalled};
 use share_ledger::{Blank, Marker};
 use std::alloc::Global;
 use std::marker::Brand;
@@ -66,7 +66,7 @@ fn did_beside<M: Marker + Send + Sync, R: Threads + Wait + Sync>(
     blank: Blank,
     gate: &UntilSeen<'_>,
     side: Woken<'_>,
-) -> Result<Gathered, Refusal>
+) -> Result<Served, Refusal>
     requires blank { blank ≡ M.name }
     requires begun { BeginEmpty M.origin }
 {
