@@ -1,10 +1,9 @@
 -- What a replica is after it delivered what it asked for, page by page.
-use Rattle.std.proofs.Common.{◌≡◌, ◌≢◌, ◌↔◌, ◌<◌, ◌≤◌, inl, inr, ℕ, zero, suc, ◌+◌, List, [], ◌∷◌, ◌++◌, length, map, take, drop, nat_le, Bool, true, false, not, ◌&&◌, find, leb-true, cond, bytes_eq, filter, Option, Some, None, Contains, refl, sym, ap, subst, ◌∙◌, arith, append_assoc, append-nil}
-use Rattle.std.specs.Prelude.{is_some, sum}
-use Rattle.std.proofs.Math.Seq.{take-add}
+use Rattle.std.proofs.Common.{◌≡◌, ◌≢◌, ◌↔◌, ◌<◌, ◌≤◌, inl, inr, ℕ, zero, suc, List, [], ◌∷◌, ◌++◌, length, map, take, drop, nat_le, Bool, true, false, not, ◌&&◌, find, leb-true, cond, bytes_eq, filter, Option, Some, None, Contains, refl, sym, ap, subst, ◌∙◌, arith, append_assoc, append-nil}
+use Rattle.std.specs.Prelude.{is_some}
+use Rattle.std.proofs.Math.Seq.{take-append_seam, take-length}
 use Rattle.std.proofs.lemmas.Bool.{both_ways, false_from_ne_true, and_parts, not-true}
-use Rattle.std.proofs.lemmas.List.{take-append-drop, map-append}
-use Rattle.std.proofs.lemmas.List.Sums.{sum_by-cons}
+use Rattle.std.proofs.lemmas.List.{take-append-drop, map-append, length-map}
 use Rattle.std.proofs.lemmas.List.Elements.{Contains-append_left, Contains-append_right, filter-append}
 use lib.Pointwise.{bytes_decides}
 use Rattle.doc_api.specs.Words.{NoMemory, Op}
@@ -14,7 +13,7 @@ use Rattle.doc_api.specs.declared.ask.Command.TheVariants.{Deliver}
 use Rattle.doc_api.specs.declared.reply.Reply.{Reply}
 use Rattle.doc_api.specs.declared.reply.Reply.TheVariants.{Applied, Refused}
 use Rattle.list_laws.proofs.Filters.{filter-Contains}
-use Rattle.list_laws.proofs.Members.{Contains-here, Contains-there}
+use Rattle.list_laws.proofs.Members.{Contains-nil, Contains-here, Contains-there}
 use Rattle.list_laws.specs.Walk.{SameMembers}
 use Rattle.crdt_rules.specs.Dependencies.{is_logged, is_ready}
 use Rattle.crdt_rules.specs.Facts.{facts}
@@ -38,9 +37,9 @@ use Rattle.doc_rules.proofs.Causes.{cause_none}
 use Rattle.doc_rules.proofs.Tables.{by_rows}
 use Rattle.converge_laws.specs.Replayed.{MayPull}
 use Rattle.converge_laws.proofs.Pulls.{may_pull_back}
-use Rattle.converge_laws.specs.Exchange.{applied, Delivers, Fetches, FetchesAll, MayFetch}
-use Rattle.converge_laws.specs.Exchange.Delivers.{ends, again, next}
-use Rattle.converge_laws.specs.Exchange.Fetches.{stops, asks}
+use Rattle.converge_laws.specs.Fetch.{page, applied, Delivers, Fetches, FetchesAll, MayFetch}
+use Rattle.converge_laws.specs.Fetch.Delivers.{ends, again, next}
+use Rattle.converge_laws.specs.Fetch.Fetches.{stops, asks}
 
 -- ---- one delivery
 
@@ -200,18 +199,16 @@ uncovered_later log ops op good c =
     false_from_ne_true (covers (front_of log) op.id) (λ h.
     both_ways (covers (front_of (log ++ r.0)) op.id) (uncovered_next (log ++ r.0) op fits) (covered_still log r.0 op.id h))
 
--- a filter that keeps all, or none
-filter_whole : {X : Type 0} (test : X → Bool) (xs : List X) → ((x : X) → Contains xs x → test x ≡ true) → filter test xs ≡ xs
-filter_whole test [] all = refl
-filter_whole test (x ∷ xs) all =
-    ap (λ b. cond b (x ∷ filter test xs) (filter test xs)) (all x (Contains-here xs refl))
-    ∙ ap (λ l. x ∷ l) (filter_whole test xs (λ y c. all y (Contains-there x xs c)))
-
-filter_empty : {X : Type 0} (test : X → Bool) (xs : List X) → ((x : X) → Contains xs x → test x ≡ false) → filter test xs ≡ []
-filter_empty test [] none = refl
-filter_empty test (x ∷ xs) none =
-    ap (λ b. cond b (x ∷ filter test xs) (filter test xs)) (none x (Contains-here xs refl))
-    ∙ filter_empty test xs (λ y c. none y (Contains-there x xs c))
+-- a filter that keeps none of the first, and all of the rest
+filter_rest : {X : Type 0} (test : X → Bool) (first rest : List X) → ((x : X) → Contains first x → test x ≡ false)
+    → ((x : X) → Contains rest x → test x ≡ true) → filter test (first ++ rest) ≡ rest
+filter_rest test [] [] none all = refl
+filter_rest test [] (x ∷ rest) none all =
+    ap (λ b. cond b (x ∷ filter test rest) (filter test rest)) (all x (Contains-here rest refl))
+    ∙ ap (λ l. x ∷ l) (filter_rest test [] rest none (λ y c. all y (Contains-there x rest c)))
+filter_rest test (x ∷ first) rest none all =
+    ap (λ b. cond b (x ∷ filter test (first ++ rest)) (filter test (first ++ rest))) (none x (Contains-here first refl))
+    ∙ filter_rest test first rest (λ y c. none y (Contains-there x first c)) all
 
 -- by a narrower test, of what a wider one keeps
 filter_narrow : {X : Type 0} (wide narrow : X → Bool) (xs : List X) → ((x : X) → wide x ≡ false → narrow x ≡ false)
@@ -230,8 +227,7 @@ since_rest : (log other first rest : List Op) → since (front_of log) other ≡
 since_rest log other first rest is good =
     filter_narrow old new other (λ o h. ap not (covered_still log first o.id (not-false (covers (front_of log) o.id) h)))
     ∙ ap (filter new) is
-    ∙ filter-append new first rest
-    ∙ (λ i. filter_empty new first gone i ++ filter_whole new rest left i)
+    ∙ filter_rest new first rest gone left
   where
     old : Op → Bool
     old o = not (covers (front_of log) o.id)
@@ -253,67 +249,81 @@ pub record IsAsking (other r : Replica) : Type 0 where
   pub good : IsGoodAfter r.log (since (front_of r.log) other.log)
   pub foreign : AreForeign r.name (since (front_of r.log) other.log)
 
-module _ (other r : Replica) (asking : IsAsking other r) (limit : ℕ) where
-  abbrev whole : List Op
-  whole = since (front_of r.log) other.log
+-- the first of what it lacks, and the rest
+module _ (other r : Replica) (asking : IsAsking other r) (first rest : List Op) (is : since (front_of r.log) other.log ≡ first ++ rest) where
+  first_good : IsGoodAfter r.log first × IsGoodAfter (r.log ++ first) rest
+  first_good = good_split r.log first rest (subst (IsGoodAfter r.log) is asking.good)
 
-  page_good : IsGoodAfter r.log (take limit whole) × IsGoodAfter (r.log ++ take limit whole) (drop limit whole)
-  page_good =
-      good_split r.log (take limit whole) (drop limit whole)
-      (subst (IsGoodAfter r.log) (sym (take-append-drop limit whole)) asking.good)
+  first_foreign : AreForeign r.name first
+  first_foreign o c = asking.foreign o (subst (λ l. Contains l o) (sym is) (Contains-append_left first rest o c))
 
-  page_foreign : AreForeign r.name (take limit whole)
-  page_foreign o c =
-      asking.foreign o (subst (λ l. Contains l o) (take-append-drop limit whole) (Contains-append_left (take limit whole) (drop limit whole) o c))
+  pub left_after : since (front_of (r.log ++ first)) other.log ≡ rest
+  left_after = since_rest r.log other.log first rest is first_good.1
 
-  pub left_after : since (front_of (r.log ++ take limit whole)) other.log ≡ drop limit whole
-  left_after = since_rest r.log other.log (take limit whole) (drop limit whole) (sym (take-append-drop limit whole)) page_good.1
-
-  pub asks_on : IsAsking other (with_more (take limit whole) r)
+  pub asks_on : IsAsking other (with_more first r)
   asks_on = record {
     empty = asking.empty;
-    good = subst (IsGoodAfter (r.log ++ take limit whole)) (sym left_after) page_good.1;
+    good = subst (IsGoodAfter (r.log ++ first)) (sym left_after) first_good.1;
     foreign = λ o c.
-        asking.foreign o
-        (subst (λ l. Contains l o) (take-append-drop limit whole)
-        (Contains-append_right (take limit whole) (drop limit whole) o (subst (λ l. Contains l o) left_after c)));
+        asking.foreign o (subst (λ l. Contains l o) (sym is) (Contains-append_right first rest o (subst (λ l. Contains l o) left_after c)));
   }
 
-  pub page_applied : {s : Replica} {replies : List Reply} → Delivers r (take limit whole) replies s → AllApplied r (take limit whole) replies s
-  page_applied h = delivers_all h asking.empty page_good.0 page_foreign
+  pub first_applied : {s : Replica} {replies : List Reply} → Delivers r first replies s → AllApplied r first replies s
+  first_applied h = delivers_all h asking.empty first_good.0 first_foreign
 
-  pub page_may : Delivers r (take limit whole) (map applied (take limit whole)) (with_more (take limit whole) r)
-  page_may = may_deliver (take limit whole) r asking.empty page_good.0 page_foreign
+  pub first_may : Delivers r first (map applied first) (with_more first r)
+  first_may = may_deliver first r asking.empty first_good.0 first_foreign
 
-  -- a page, and then the first of the rest
-  pub first_more : (more : ℕ) → take limit whole ++ take more (since (front_of (r.log ++ take limit whole)) other.log) ≡ take (limit + more) whole
-  first_more more = ap (λ l. take limit whole ++ take more l) left_after ∙ sym (take-add limit more whole)
+-- what a page leaves
+abbrev behind : Replica → ℕ → ℕ → Replica → List Op
+behind r limit so_far other =
+    drop limit (since (front_of r.log) (take so_far other.log)) ++ since (front_of r.log) (drop so_far other.log)
 
-fetched_then : (first more : List Op) (r : Replica) → with_more more (with_more first r) ≡ with_more (first ++ more) r
-fetched_then first more r = λ i. record r { log = append_assoc r.log first more i }
+page_first : (r other : Replica) (limit so_far : ℕ) → since (front_of r.log) other.log ≡ page r limit (take so_far other.log) ++ behind r limit so_far other
+page_first r other limit so_far =
+    let new : Op → Bool = λ o. not (covers (front_of r.log) o.id) in
+    let now = filter new (take so_far other.log) in
+    ap (filter new) (sym (take-append-drop so_far other.log))
+    ∙ filter-append new (take so_far other.log) (drop so_far other.log)
+    ∙ ap (λ l. l ++ filter new (drop so_far other.log)) (sym (take-append-drop limit now))
+    ∙ append_assoc (take limit now) (drop limit now) (filter new (drop so_far other.log))
 
--- Pages log the first of what the replica lacks, as many as they may have together.
-pub fetches_first : {other r s : Replica} {limits : List ℕ} {replies : List Reply} → Fetches other r limits replies s → IsAsking other r
-    → AllApplied r (take (sum limits) (since (front_of r.log) other.log)) replies s
-fetches_first (stops {r}) asking = (refl, nothing_more r)
-fetches_first {other} (asks {r} {s} {t} {limit} {limits} {replies} {more} delivers rest) asking =
-    let first = take limit (since (front_of r.log) other.log) in
-    let one = page_applied other r asking limit delivers in
-    let then = subst (λ z. IsAsking other z → AllApplied z (take (sum limits) (since (front_of z.log) other.log)) more t) one.1
-    (λ a. fetches_first rest a) (asks_on other r asking limit) in
-    let is = first_more other r asking limit (sum limits) ∙ ap (λ n. take n (since (front_of r.log) other.log)) (sym (sum_by-cons (λ n. n) limit limits)) in
-    let behind = take (sum limits) (since (front_of (r.log ++ first)) other.log) in (
-      (λ i. one.0 i ++ then.0 i) ∙ sym (map-append applied first behind) ∙ ap (map applied) is,
-      then.1 ∙ fetched_then first behind r ∙ ap (λ l. with_more l r) is,
-    )
+-- it has logged the first of what it lacked, and the replies say so
+pub record HasFetched (other r : Replica) (replies : List Reply) (s : Replica) : Type 0 where
+  pub first : List Op
+  pub rest : List Op
+  pub is : since (front_of r.log) other.log ≡ first ++ rest
+  pub replies_are : replies ≡ map applied first
+  pub after : s ≡ with_more first r
 
--- whatever their sizes they may be had
-pub may_fetch_pages : (other : Replica) (limits : List ℕ) (r : Replica) → IsAsking other r → (replies : List Reply) × (s : Replica) × Fetches other r limits replies s
-may_fetch_pages other [] r asking = ([], r, stops)
-may_fetch_pages other (limit ∷ limits) r asking =
-    let first = take limit (since (front_of r.log) other.log) in
-    let rest = may_fetch_pages other limits (with_more first r) (asks_on other r asking limit) in
-    (map applied first ++ rest.0, rest.1, asks (page_may other r asking limit) rest.2)
+-- a page, and then more
+fetched_then : {other r : Replica} {more : List Reply} {t : Replica} (asking : IsAsking other r) (first rest : List Op)
+    → since (front_of r.log) other.log ≡ first ++ rest → HasFetched other (with_more first r) more t
+    → HasFetched other r (map applied first ++ more) t
+fetched_then {other} {r} asking first rest is then = record {
+  first = first ++ then.first;
+  rest = then.rest;
+  is =
+      is ∙ ap (λ l. first ++ l) (sym (left_after other r asking first rest is) ∙ then.is)
+      ∙ sym (append_assoc first then.first then.rest);
+  replies_are = ap (λ l. map applied first ++ l) then.replies_are ∙ sym (map-append applied first then.first);
+  after = then.after ∙ λ i. record r { log = append_assoc r.log first then.first i };
+}
+
+pub fetches_first : {other r s : Replica} {replies : List Reply} → Fetches other r replies s → IsAsking other r → HasFetched other r replies s
+fetches_first {other} (stops {r}) asking =
+    record { first = []; rest = since (front_of r.log) other.log; is = refl; replies_are = refl; after = nothing_more r }
+fetches_first {other} (asks {r} {s} {t} {replies} {more} limit so_far delivers later) asking =
+    let first = page r limit (take so_far other.log) in
+    let rest = behind r limit so_far other in
+    let is = page_first r other limit so_far in
+    let one = first_applied other r asking first rest is delivers in
+    let then = subst (λ z. IsAsking other z → HasFetched other z more t) one.1
+    (λ a. fetches_first later a) (asks_on other r asking first rest is) in
+    subst (λ l. HasFetched other r (l ++ more) t) (sym one.0) (fetched_then asking first rest is then)
+
+pub asking_still : {other r s : Replica} {replies : List Reply} → HasFetched other r replies s → IsAsking other r → IsAsking other s
+asking_still {other} {r} h asking = subst (IsAsking other) (sym h.after) (asks_on other r asking h.first h.rest h.is)
 
 -- ---- from the premise
 
@@ -329,13 +339,25 @@ asking_from {r} {other} may =
         both_ways (covers (front_of r.log) o.id) (not-true (covers (front_of r.log) o.id) kept.1)
         (front_of-covers r.log o o.id (may.own o kept.0 same) refl (omega arith))
 
-pub fetched : {r other s : Replica} {limits : List ℕ} {replies : List Reply} → MayFetch r other → Fetches other r limits replies s
-    → AllApplied r (take (sum limits) (since (front_of r.log) other.log)) replies s
+pub fetched : {r other s : Replica} {replies : List Reply} → MayFetch r other → Fetches other r replies s → HasFetched other r replies s
 fetched may h = fetches_first h (asking_from may)
 
--- the first n of a list, where none is left, are all
-all_taken : {X : Type 0} (n : ℕ) (xs : List X) → drop n xs ≡ [] → take n xs ≡ xs
-all_taken n xs none = sym (append-nil (take n xs)) ∙ ap (λ l. take n xs ++ l) (sym none) ∙ take-append-drop n xs
+-- as many as there are replies
+pub first_is : {other r s : Replica} {replies : List Reply} (h : HasFetched other r replies s)
+    → h.first ≡ take (length replies) (since (front_of r.log) other.log)
+first_is {other} {r} h =
+    sym (take-append_seam h.first h.rest)
+    ∙ λ i. take ((sym (length-map h.first applied) ∙ ap length (sym h.replies_are)) i) (sym h.is i)
+
+-- a further page may be delivered
+pub may_go_on : (r other s : Replica) (replies : List Reply) (limit so_far : ℕ) → MayFetch r other → Fetches other r replies s
+    → (more : List Reply) × (t : Replica) × Delivers s (page s limit (take so_far other.log)) more t
+may_go_on r other s replies limit so_far may h =
+    let first = page s limit (take so_far other.log) in (
+      map applied first,
+      with_more first s,
+      first_may other s (asking_still (fetched may h) (asking_from may)) first (behind s limit so_far other) (page_first s other limit so_far),
+    )
 
 none_taken : {X : Type 0} (n : ℕ) (xs : List X) → 0 < n → take n xs ≡ [] → xs ≡ []
 none_taken n [] some none = refl
@@ -346,12 +368,30 @@ none_taken (suc n) (x ∷ xs) some none = absurd (cc)
 pub fetched_all : (r other s : Replica) → MayFetch r other → FetchesAll other r s → s.log ≡ pulled r.log other.log
 fetched_all r other s may all =
     let asking = asking_from may in
-    let n = sum all.limits in
-    let wanted = since (front_of r.log) other.log in
-    let log : s.log ≡ r.log ++ take n wanted = ap (λ (z : Replica). z.log) (fetched may all.fetches).1 in
+    let h = fetched may all.fetches in
+    let log : s.log ≡ r.log ++ h.first = ap (λ (z : Replica). z.log) h.after in
     let empty : since (front_of s.log) other.log ≡ [] = none_taken all.limit (since (front_of s.log) other.log) all.some all.no_more in
-    let none : drop n wanted ≡ [] = sym (left_after other r asking n) ∙ ap (λ l. since (front_of l) other.log) (sym log) ∙ empty in
-    log ∙ ap (λ l. r.log ++ l) (all_taken n wanted none)
+    let none : h.rest ≡ [] = sym (left_after other r asking h.first h.rest h.is) ∙ ap (λ l. since (front_of l) other.log) (sym log) ∙ empty in
+    log ∙ ap (λ l. r.log ++ l) (sym (append-nil h.first) ∙ ap (λ l. h.first ++ l) (sym none) ∙ sym h.is)
+
+-- one page may have all
+pub may_fetch_all : (r other : Replica) → MayFetch r other → (s : Replica) × FetchesAll other r s
+may_fetch_all r other may =
+    let asking = asking_from may in
+    let lacks = since (front_of r.log) other.log in
+    let is : lacks ≡ lacks ++ [] = sym (append-nil lacks) in
+    let whole : page r (length lacks) (take (length other.log) other.log) ≡ lacks =
+    ap (λ l. page r (length lacks) l) (take-length other.log) ∙ take-length lacks in (
+      with_more lacks r,
+      record {
+        replies = map applied lacks ++ [];
+        fetches = asks (length lacks) (length other.log)
+            (subst (λ l. Delivers r l (map applied lacks) (with_more lacks r)) (sym whole) (first_may other r asking lacks [] is)) stops;
+        limit = 1;
+        some = omega arith;
+        no_more = ap (take 1) (left_after other r asking lacks [] is);
+      },
+    )
 
 -- ---- both ways
 
@@ -360,9 +400,9 @@ pulled_then : (log other : List Op) → pulled other (pulled log other) ≡ pull
 pulled_then log other =
     let new : Op → Bool = λ o. not (covers (front_of other) o.id) in
     let rest = since (front_of log) other in
-    let known : filter new rest ≡ [] = filter_empty new rest (λ o c.
+    let known : filter new rest ≡ [] = ap (filter new) (sym (append-nil rest)) ∙ filter_rest new rest [] (λ o c.
     let there = (filter-Contains (λ o. not (covers (front_of log) o.id)) other c).0 in
-    ap not (front_of-covers other o o.id there refl (omega arith))) in
+    ap not (front_of-covers other o o.id there refl (omega arith))) (λ o c. absurd (Contains-nil c)) in
     ap (λ l. other ++ l) (filter-append new log rest ∙ ap (λ l. filter new log ++ l) known ∙ append-nil (filter new log))
 
 -- and may

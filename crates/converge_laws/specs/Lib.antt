@@ -1,2 +1,2 @@
 pub mod Replayed
-pub mod Exchange
+pub mod Fetch
