@@ -1,3 +1,4 @@
 pub mod Pulls
 pub mod Sets
 pub mod Replays
+pub mod Fetched
