@@ -4,7 +4,7 @@ import { deepEqual, equal, ok, throws } from "node:assert/strict";
 import { createHash } from "node:crypto";
 import { test } from "node:test";
 import { Conflict, Counter, Refused, Replica, freshName, plain, print } from "../index.mjs";
-import { engines } from "./engines.mjs";
+import { byHand, engines } from "./engines.mjs";
 import { RandomSession } from "./random_sessions.mjs";
 import { answered, cpuOf, slowness, tooLong } from "./support.mjs";
 
@@ -47,7 +47,8 @@ for (const [title, engine] of engines) {
     deepEqual(me.place([0, "text", id, "k"]), [0, "text", id, "k"]);
   });
 
-  test(`${title}: a paste is a request for each 1,024 characters, and one step of undo`, () => {
+  const skip = engine === byHand && tooLong;
+  test(`${title}: a paste is a request for each 1,024 characters, and one step of undo`, { skip }, () => {
     /** @type {string[]} */
     const words = [];
     const me = new Replica("ada", "d", {
