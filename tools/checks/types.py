@@ -1,5 +1,8 @@
 """Lint, types and shell: pyflakes and mypy --strict of all Python, tsc, shellcheck.
 
+The runs of mypy go one after the other and share a cache, which is made anew: what several import is read once. tsc also makes
+clients/js/types, which must be what is there.
+
 What needs a tool that isn't here is skipped, which a line says. By itself, this check has the status 77 where it could try nothing."""
 
 import argparse
@@ -9,13 +12,14 @@ import os
 import re
 import shutil
 import subprocess
-from typing import Callable, Dict, Iterator, List, NamedTuple, Optional
+import tempfile
+from typing import Callable, Dict, Iterator, List, NamedTuple, Optional, Sequence, Tuple
 
 from needs import SKIPPED, line_of, missing, reason_of
 from pythons import python_with
 
-# Where mypy finds the modules of a folder at the top, and those of all other Python.
-MODULES = {"examples": "examples/tests:examples:clients/python", "clients": "clients/python:clients/python/tests"}
+# Where mypy finds the modules of a folder at the top, and those of all other Python. First is the folder whose modules others import.
+MODULES = {"clients": "clients/python:clients/python/tests", "examples": "examples/tests:examples:clients/python"}
 OTHER_MODULES = "tools:tests:tests/whole-program:operations/tests:clients/python:bench"
 
 
@@ -28,6 +32,7 @@ class Tool(NamedTuple):
     words: List[str]
     needed: List[str]  # by their names in tests/packages.txt
     modules: str = ""  # where mypy finds modules
+    made: Tuple[str, str] = ("", "")  # a folder that it fills, and the one in the repository that must be the same
 
 
 def tracked(top: str, *patterns: str) -> List[str]:
@@ -64,10 +69,10 @@ def without_twins(files: List[str]) -> List[List[str]]:
     return [list(it.values()) for it in found]
 
 
-def typed(top: str, files: List[str]) -> Iterator[Tool]:
+def typed(top: str, files: List[str], cache: str) -> Iterator[Tool]:
     """The runs of mypy. Tests import pytest, whose types it needs."""
     command = python_with("mypy", "pytest")
-    words = ["-m", "mypy", "--strict", "--no-error-summary", "--cache-dir=/dev/null", "--explicit-package-bases", "--namespace-packages",
+    words = ["-m", "mypy", "--strict", "--no-error-summary", f"--cache-dir={cache}", "--explicit-package-bases", "--namespace-packages",
              "--scripts-are-modules"]
     for folder in (*MODULES, ""):
         inside = [it for it in files if it.partition("/")[0] == folder or not folder and it.partition("/")[0] not in MODULES]
@@ -76,15 +81,16 @@ def typed(top: str, files: List[str]) -> Iterator[Tool]:
             yield Tool(name, command, top, [*words, *part], ["python:mypy", "python:pytest"], MODULES.get(folder, OTHER_MODULES))
 
 
-def runs(top: str) -> Iterator[Tool]:
-    """Each run of a tool."""
-    files = python_files(top)
+def others(top: str, files: List[str], room: str) -> Iterator[Tool]:
+    """The runs of other tools."""
     yield Tool("pyflakes", python_with("pyflakes"), top, ["-m", "pyflakes", *files], ["python:pyflakes"])
-    yield from typed(top, files)
     tsc = shutil.which("tsc")
     for package in ("js", "hub"):
-        if glob.glob(f"{top}/clients/{package}/tsconfig.json"):
-            yield Tool(f"tsc of clients/{package}", tsc, f"{top}/clients/{package}", ["-p", "."], ["tsc"])
+        inside = f"{top}/clients/{package}"
+        if glob.glob(f"{inside}/tsconfig.json"):
+            made = (f"{room}/{package}", f"{inside}/types") if os.path.isdir(f"{inside}/types") else ("", "")
+            words = ["--noEmit", "false", "--declaration", "--emitDeclarationOnly", "--outDir", made[0]] if made[0] else []
+            yield Tool(f"tsc of clients/{package}", tsc, inside, ["-p", ".", *words], ["tsc"], made=made)
     yield Tool("shellcheck", shutil.which("shellcheck"), top, ["-x", *shell_files(top)], ["shellcheck"])
 
 
@@ -98,6 +104,14 @@ def is_excused(folder: str, fault: str) -> bool:
     return any("noqa" in lines[int(number) - 1] for number in (found[2], found[3]) if number)
 
 
+def unlike(made: str, kept: str) -> Iterator[str]:
+    """A line for each file that is in one of two folders alone, or differs."""
+    for name in sorted({*os.listdir(made), *os.listdir(kept)}):
+        texts = [open(f"{it}/{name}", "rb").read() if os.path.isfile(f"{it}/{name}") else b"" for it in (made, kept)]
+        if texts[0] != texts[1]:
+            yield f"types/{name} isn't what tsc makes of the comments: npm run types\n"
+
+
 def outcome(tool: Tool) -> Optional[str]:
     """What a tool found, or nothing where it isn't here."""
     if not tool.command:
@@ -105,16 +119,23 @@ def outcome(tool: Tool) -> Optional[str]:
     ran = subprocess.run([tool.command, *tool.words], cwd=tool.folder, stdin=subprocess.DEVNULL, stdout=subprocess.PIPE, stderr=subprocess.STDOUT,
                          env={**os.environ, "MYPYPATH": tool.modules}, text=True, check=False)
     if not ran.returncode:
-        return ""
+        return "".join(unlike(*tool.made)) if tool.made[0] else ""
     if tool.name == "pyflakes":
         return "".join(f"{it}\n" for it in ran.stdout.splitlines() if not is_excused(tool.folder, it))
     return ran.stdout or f"status {ran.returncode}\n"
 
 
+def outcomes(tools: Sequence[Tool]) -> List[Optional[str]]:
+    """What each of these tools found, one after the other."""
+    return [outcome(it) for it in tools]
+
+
 def check(words: argparse.Namespace) -> int:
-    tools = list(runs(words.top))
-    with concurrent.futures.ThreadPoolExecutor(2) as pool:
-        said = dict(zip([it.name for it in tools], pool.map(outcome, tools)))
+    files = python_files(words.top)
+    with tempfile.TemporaryDirectory(prefix="jcrdt-types-") as room, concurrent.futures.ThreadPoolExecutor(2) as pool:
+        lanes = [list(typed(words.top, files, f"{room}/mypy")), list(others(words.top, files, room))]
+        tools = [it for lane in lanes for it in lane]
+        said = dict(zip([it.name for it in tools], (text for found in pool.map(outcomes, lanes) for text in found)))
     for name, text in said.items():
         print(f"{name}:\n{text}" if text else "", end="")
     for tool in tools:

@@ -171,7 +171,7 @@ function madeBy(calls) {
 }
 
 test("a watched list is as one that is read, where an empty replica takes all at once", () => {
-  for (const [title, engine] of engines) {
+  for (const [title, engine] of tooLong ? engines.slice(0, 1) : engines) {
     for (const [what, change] of BESIDE) {
       const other = new Replica("bob", "d");
       other.put([0, "t"], [..."x".repeat(300)]);

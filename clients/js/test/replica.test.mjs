@@ -4,7 +4,7 @@ import { deepEqual, equal, ok, throws } from "node:assert/strict";
 import { createHash } from "node:crypto";
 import { test } from "node:test";
 import { Conflict, Counter, Refused, Replica, freshName, plain, print } from "../index.mjs";
-import { engines } from "./engines.mjs";
+import { byHand, engines } from "./engines.mjs";
 import { byteLength } from "../values.mjs";
 import { RandomSession } from "./random_sessions.mjs";
 import { answered, cpuOf, slowness, tooLong } from "./support.mjs";
@@ -48,6 +48,7 @@ for (const [title, engine] of engines) {
     deepEqual(me.place([0, "text", id, "k"]), [0, "text", id, "k"]);
   });
 
+  const skip = engine === byHand && tooLong;
   /** A replica, and the bytes of the answers to each of these requests, in order.
    *  @param {string[]} words */
   const measured = (...words) => {
@@ -68,7 +69,7 @@ for (const [title, engine] of engines) {
     return { me, sizes };
   };
 
-  test(`${title}: a paste is a request for some 600 characters, and one step of undo`, () => {
+  test(`${title}: a paste is a request for some 600 characters, and one step of undo`, { skip }, () => {
     const { me, sizes } = measured("insert", "inserts", "delete", "deletes");
     me.put([0], { text: [..."<>"], note: "x" });
     sizes.length = 0;
@@ -95,7 +96,7 @@ for (const [title, engine] of engines) {
     equal(other.text([0, "text"]), `<${pasted}>`);
   });
 
-  test(`${title}: no answer to a run has more bytes than the library keeps room for`, () => {
+  test(`${title}: no answer to a run has more bytes than the library keeps room for`, { skip }, () => {
     const { me, sizes } = measured("inserts", "deletes");
     const names = Array.from({ length: 40 }, (_, at) => `${at}-`.padEnd(32, "z"));
     for (const name of names) {

@@ -9,7 +9,6 @@ import { quickClock } from "./clock.mjs";
 import { dice } from "./random.mjs";
 import { opened, test } from "./providing.mjs";
 import { room, startServer } from "./serving.mjs";
-import { tooLong } from "./support.mjs";
 import { fileStore } from "../file_store.mjs";
 
 /** @typedef {object} Program A program over a store.
@@ -34,7 +33,7 @@ const KINDS = { known: "", old: ", of an older package", cloned: ", of a cloned 
  *  @param {string} [named] The name of their test. */
 function both(name, work, other = "cloned", named = `${name}${KINDS[other]}`) {
   test(name, () => work("known"));
-  test(named, () => work(other), { skip: tooLong });
+  test(named, () => work(other));
 }
 
 /** Copies a file.
@@ -181,7 +180,7 @@ test("a store that is read alone goes on under its name, also behind a kill", as
 
 both("random copies of running stores, all online in any order: each edit is there once", async (kind) => {
   const usual = kind === "old" && !process.env.JCRDT_SLOW ? 4 : 12;
-  const rounds = Number(process.env.ROUNDS ?? (tooLong ? usual / 4 : usual));
+  const rounds = Number(process.env.ROUNDS ?? usual);
   const first = Number(process.env.SEED ?? 1);
   for (let seed = first; seed < first + rounds; seed++) await round(seed, kind);
 }, "old");
@@ -360,7 +359,7 @@ class Gate {
 const EDITS = 80; // of two operations: more than two pages
 
 both("a store copied while its program sends what it has, in pages: each edit is there once", async (kind) => {
-  const ways = (tooLong ? [40, 130] : [1, 40, 65, 130]).flatMap((count) => ["copy", "original", "both", "killed"].map((how) => ({ count, how })));
+  const ways = [1, 40, 65, 130].flatMap((count) => ["copy", "original", "both", "killed"].map((how) => ({ count, how })));
   const documents = ways.map((_, at) => `d${at}`);
   const { address } = await startServer(documents);
   for (const [at, { count, how }] of ways.entries()) {

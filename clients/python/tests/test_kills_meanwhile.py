@@ -9,8 +9,6 @@ from typing import Any, Callable, Dict, List, Optional, Sequence, cast
 
 import pytest
 
-from conftest import IS_SHORT
-
 from jcrdt import wire
 from jcrdt import replica as replica_module
 from jcrdt.chains import LogsDiffer
@@ -161,7 +159,7 @@ def test_what_a_kill_takes_is_no_difference(kept: List[Operation], at: int) -> N
             agree(me, hub)
 
 
-@pytest.mark.parametrize("replica, counter", itertools.product(["ada", "bob"], [1, 3] if IS_SHORT else [1, 2, 3, 4]))
+@pytest.mark.parametrize("replica, counter", itertools.product(["ada", "bob"], [1, 2, 3, 4]))
 @pytest.mark.parametrize("at", REQUESTS)
 def test_what_others_send_in_its_place_is_a_difference(replica: str, counter: int, at: int) -> None:
     """The server is killed before any request, and has others' operations at any later one. Where it is compared behind that, nothing

@@ -1,7 +1,6 @@
 """Copies of stores that go on in Python and in JavaScript: all sync, and each edit is there once.
 
-Over libjcrdt.so and node; skipped where one isn't here. With JCRDT_SLOW many seeds, with SEEDS so many; with JCRDT_SHORT one, and a
-quarter of the ways in which three copies sync."""
+Over libjcrdt.so and node; skipped where one isn't here. With JCRDT_SLOW many seeds, with SEEDS so many."""
 
 import contextlib
 import itertools
@@ -13,7 +12,7 @@ from typing import Callable, Iterator, List, Optional, Sequence, Tuple
 
 import pytest
 
-from conftest import IS_SHORT, Server
+from conftest import Server
 from test_running_copies import OfJavaScript, Program, begun, cut_after, state
 
 import jcrdt
@@ -22,7 +21,7 @@ from jcrdt.session import Session
 from jcrdt.syncing import Differs
 
 Serve = Callable[..., Server]
-SEEDS = int(os.environ.get("SEEDS", "60" if os.environ.get("JCRDT_SLOW") else "1" if IS_SHORT else "5"))
+SEEDS = int(os.environ.get("SEEDS", "60" if os.environ.get("JCRDT_SLOW") else "5"))
 
 pytestmark = [pytest.mark.skipif(not any(map(os.path.isfile, replica_module.library_paths())), reason="libjcrdt.so isn't here"),
               pytest.mark.skipif(shutil.which("node") is None, reason="node isn't here")]
@@ -110,9 +109,7 @@ def check(programs: Sequence[Either], client: Session, texts: Sequence[str], vot
 
 LANGUAGES = list(itertools.product(["python", "javascript"], repeat=3))
 WAYS = [(True, [0, 1, 2]), (True, [2, 1, 0]), (False, [2, 0, 1]), (False, [2, 1, 0]), (False, [1, 2, 0])]
-# In a short run each way twice, and each three languages at least once.
-CASES = [("-".join(languages), *way) for at, way in enumerate(WAYS) for number, languages in enumerate(LANGUAGES)
-         if not IS_SHORT or number % 4 == at % 4]
+CASES = [("-".join(languages), *way) for way in WAYS for languages in LANGUAGES]
 
 
 @pytest.mark.parametrize("languages, is_edited, order", CASES)

@@ -15,7 +15,7 @@ from typing import Any, Callable, Iterator, List, Optional, Sequence, Tuple
 
 import pytest
 
-from conftest import IS_SHORT, SECONDS, TOP, Server, of_either_name
+from conftest import SECONDS, TOP, Server, of_either_name
 
 import jcrdt
 from jcrdt import replica as replica_module
@@ -161,7 +161,7 @@ def check(programs: List[Program], client: Session, texts: List[str], votes: int
         it.close()
 
 
-WAYS = list(itertools.product(["original", "copy"], [True, False], ["first", "anew", "killed"], [True, False]))[::5 if IS_SHORT else 1]
+WAYS = list(itertools.product(["original", "copy"], [True, False], ["first", "anew", "killed"], [True, False]))
 
 
 @of_either_name
@@ -442,7 +442,7 @@ class Rounds:
 
 
 @of_either_name
-@pytest.mark.parametrize("seed", range(int(os.environ.get("ROUNDS", "6" if IS_SHORT else "24"))))
+@pytest.mark.parametrize("seed", range(int(os.environ.get("ROUNDS", "24"))))
 def test_random_copies_of_running_stores(client: Session, tmp_path: Path, seed: int) -> None:
     """Nothing is lost, nothing doubled."""
     rounds = Rounds(seed, client, tmp_path)
@@ -455,7 +455,7 @@ def test_random_copies_of_running_stores(client: Session, tmp_path: Path, seed: 
 
 
 @of_either_name
-@pytest.mark.parametrize("seed", range(3 if IS_SHORT else 12))
+@pytest.mark.parametrize("seed", range(12))
 def test_an_original_and_a_copy_that_sync_at_the_same_time(serve: Serve, tmp_path: Path, seed: int) -> None:
     """Each in a thread of its own, over a session of its own, several times."""
     dice = random.Random(seed)
