@@ -1,5 +1,5 @@
 -- What the stored log has is a prefix of what a copier has read.
-use Rattle.std.proofs.Common.{arith, ap, ap₂, ◌+◌, ◌++◌, ◌∷◌, ◌≡◌, ◌≢◌, ◌<◌, ◌≤◌, ◌⊎◌, inl, inr, Result, Ok, Err, IfOk, IfErr, length, List, [], ℕ, zero, suc, map, take, drop, set, get_or, ◌∙◌, subst, sym, refl, zero-lt-suc, append_assoc, append-nil, length-append, length-set, take-append-drop, get_or-set_same, get_or-set_other}
+use Rattle.std.proofs.Common.{arith, ap, ap₂, ◌+◌, ◌++◌, ◌∷◌, ◌≡◌, ◌≢◌, ◌<◌, ◌≤◌, ◌⊎◌, inl, inr, Result, Ok, Err, IfOk, IfErr, length, List, [], ℕ, zero, suc, map, take, drop, set, get_or, ◌∙◌, subst, sym, refl, zero-lt-suc, below_more, append_assoc, append-nil, length-append, length-set, take-append-drop, get_or-set_same, get_or-set_other}
 use Rattle.std.proofs.lemmas.List.{drop-map, get_or_append_left, get_or_default, get_or_push, length-map, length_push, map-append, nil_from_length, take-map}
 use Rattle.std.proofs.Math.Seq.{drop-append_seam}
 use Rattle.std.specs.Borrow.{Bor}
@@ -10,10 +10,11 @@ use Rattle.doc_api.specs.Words.{Id, Op}
 use Rattle.doc_rules.specs.Document.{Document, tail}
 use Rattle.doc_rules.specs.Seats.{operation_ids}
 use Rattle.locked_doc.specs.Followed.{Followed, IsPrefix}
+use Rattle.server_core.specs.Sums.{AreBooksFrom}
 use Rattle.stored_log.specs.Docs.{Doc, add_batch, log_of}
 use Rattle.stored_log.specs.Limits.{most_rows}
 use Rattle.stored_log.specs.declared.fault.Fault.{Fault}
-use Rattle.stored_log.specs.declared.fault.Fault.TheVariants.{Store}
+use Rattle.stored_log.specs.declared.fault.Fault.TheVariants.{Memory, Store}
 use Rattle.stored_log.proofs.DocLemmas.{batch_added, batch_others}
 use Rattle.served_log.specs.Batches.{AddsMany, AddsOf}
 use Rattle.served_log.specs.Known.{AllDiffer, AreKnown, AreNumbered, AreReadFrom, IsKnown, StaysKnown, nothing_read}
@@ -58,7 +59,7 @@ known_added : (docs : List Doc) (name : List ℕ) (ops : List Op) (from : ℕ) (
     → IsKnown docs name before → IsKnown (add_batch name ops docs) name after
 known_added docs name ops from before after behind read grows known =
     let rows : List Id = operation_ids (log_of name docs) in
-    let many : from ≡ length rows = behind ∙ sym (length-map (λ (op : Op). op.id) (log_of name docs)) in
+    let many : from ≡ length rows = behind ∙ sym (length-map (log_of name docs) (λ (op : Op). op.id)) in
     let added : operation_ids (log_of name (add_batch name ops docs)) ≡ rows ++ operation_ids ops =
     ap operation_ids (batch_added name ops docs) ∙ map-append (λ (op : Op). op.id) (log_of name docs) ops in
     subst (λ ids. IsPrefix ids after) (sym added) (prefix_more most_rows from rows after (operation_ids ops) (known_grown docs name before after grows known) many read)
@@ -71,23 +72,23 @@ known_next {name = n} {from = k} {old = old} before after behind read_is read gr
     (known_added old n adds.next.ops k before after behind (subst (λ ops. AreReadFrom k ops after) (sym (these ∙ read_is)) read) grows known)
 
 -- the log stayed as it was, up to a fault of the store
-pub known_kept : {L : Type 0} (docs : L → List Doc) (name : List ℕ) (old new : L) (before after : List Id) {A : Type 0} → IsPrefix before after → A ⊎ (new ≡ old)
-    → A ⊎ (IsKnown (docs old) name before → IsKnown (docs new) name after)
-known_kept docs name old new before after grows (inl store) = inl store
-known_kept docs name old new before after grows (inr same) =
+pub known_kept : {L X : Type 0} (docs : L → List Doc) (name : List ℕ) (old new : L) (before after : List Id) (r : Result X Fault) (e : Fault) → r ≡ Err e → IsPrefix before after
+    → (e ≡ Store) ⊎ (new ≡ old) → (r ≡ Err Store) ⊎ (IsKnown (docs old) name before → IsKnown (docs new) name after)
+known_kept docs name old new before after r e is grows (inl store) = inl (is ∙ ap Err store)
+known_kept docs name old new before after r e is grows (inr same) =
     inr (λ known. subst (λ l. IsKnown (docs l) name after) (sym same) (known_grown (docs old) name before after grows known))
 
 -- ---- all documents
 
 -- what one document's batch leaves of the others
-pub others_stay : {L : Type 0} {origin : ℕ → Origin} {number : ℕ} (docs : L → List Doc) (name : List ℕ) (r : Result ℕ Fault) (old new : L) → IfOk r (λ count. 0 < count → AddsOf origin number name count (docs old) (docs new))
+pub others_stay : {L : Type 0} (origin : ℕ → Origin) (number : ℕ) (docs : L → List Doc) (name : List ℕ) (r : Result ℕ Fault) (old new : L) → IfOk r (λ count. 0 < count → AddsOf origin number name count (docs old) (docs new))
     → (r ≡ Ok 0 → new ≡ old) → IfErr r (λ e. (e ≡ Store) ⊎ (new ≡ old)) → (r ≡ Err Store) ⊎ ((other : List ℕ) → name ≢ other → log_of other (docs new) ≡ log_of other (docs old))
-others_stay docs name (Ok zero) old new some none err = inr (λ other apart. ap (λ l. log_of other (docs l)) (none refl))
-others_stay docs name (Ok (suc n)) old new some none err =
+others_stay origin number docs name (Ok zero) old new some none err = inr (λ other apart. ap (λ l. log_of other (docs l)) (none refl))
+others_stay origin number docs name (Ok (suc n)) old new some none err =
     let adds = (some (zero-lt-suc n)).adds.next in
     inr (λ other apart. ap (log_of other) adds.added ∙ batch_others name other adds.ops (docs old) apart)
-others_stay docs name (Err e) old new some none (inl store) = inl (ap Err store)
-others_stay docs name (Err e) old new some none (inr same) = inr (λ other apart. ap (λ l. log_of other (docs l)) same)
+others_stay origin number docs name (Err e) old new some none (inl store) = inl (ap Err store)
+others_stay origin number docs name (Err e) old new some none (inr same) = inr (λ other apart. ap (λ l. log_of other (docs l)) same)
 
 -- the seat in one place, and the others
 known_at : (names : List (List ℕ)) (old new : List Doc) (seats : List Followed) (i : ℕ) (name : List ℕ) (seat : Followed) → i < length names → name ≡ get_or names i []
@@ -159,10 +160,51 @@ pub stays_until : {A : Type 0} (names : List (List ℕ)) (old mid new : List Doc
 stays_until names old mid new before between after first (inl store) = inl store
 stays_until names old mid new before between after first (inr next) = inr (stays_known names old mid new before between after first next)
 
--- what holds up to a fault of the store, where there was none
+-- what holds up to a fault of the store, of a call that returned another value
+pub same_fault : {X Y A : Type 0} (r : Result Y Fault) (e : Fault) → r ≡ Err e → (◌≡◌ {A = Result X Fault} (Err e) (Err Store)) ⊎ A → (r ≡ Err Store) ⊎ A
+same_fault r e is (inl store) = let same : e ≡ Store = cc in inl (is ∙ ap Err same)
+same_fault r e is (inr a) = inr a
+
+-- and where there was none
 pub no_fault : {X A : Type 0} (x : X) → (◌≡◌ {A = Result X Fault} (Ok x) (Err Store)) ⊎ A → A
 no_fault x (inl same) = absurd cc
 no_fault x (inr a) = a
+
+pub no_store : {X A : Type 0} (r : Result X Fault) → r ≡ Err Memory → (r ≡ Err Store) ⊎ A → A
+no_store {X = X} r lacked (inl store) = let both : ◌≡◌ {A = Result X Fault} (Err Memory) (Err Store) = sym lacked ∙ store in absurd cc
+no_store r lacked (inr a) = a
+
+-- the same documents
+pub stays_named : {A : Type 0} (names shelved : List (List ℕ)) (old new : List Doc) (before after : List Followed) → names ≡ shelved → A ⊎ StaysKnown names old before new after
+    → A ⊎ StaysKnown shelved old before new after
+stays_named names shelved old new before after same (inl store) = inl store
+stays_named names shelved old new before after same (inr stays) = inr (subst (λ ns. StaysKnown ns old before new after) same stays)
+
+-- ---- the end
+
+-- the book in this place has its number
+book_at : (number : ℕ) (books : List Followed) → AreBooksFrom number books → (k : ℕ) (book : Followed) → k < length books → book ≡ get_or books k book → book.number ≡ number + k
+book_at number [] are k book less is = absurd (omega arith)
+book_at number (first ∷ books) are zero book less is = ap (λ (b : Followed). b.number) is ∙ (are.0 ∙ omega arith)
+book_at number (first ∷ books) are (suc k) book less is =
+    let later : book.number ≡ suc number + k = book_at (suc number) books are.1 k book (omega arith) is in omega (arith, later)
+
+-- the book in this place has the number of the seat there
+pub same_number : (books seats : List Followed) (i : ℕ) (book seat : Followed) → AreBooksFrom 0 books → AreNumbered seats → i < length books → i < length seats → book ≡ get_or books i book
+    → seat ≡ get_or seats i seat → book.number ≡ seat.number
+same_number books seats i book seat are numbered less inside book_is seat_is =
+    let first : book.number ≡ 0 + i = book_at 0 books are i book less book_is in
+    omega (arith, first, number_at seats i seat numbered inside seat_is)
+
+pub same_ids : (books seats : List Followed) (i : ℕ) (book seat : Followed) → i < length books → i < length seats → book ≡ get_or books i book → seat ≡ get_or seats i seat → book.ids ≡ seat.ids
+    → (get_or books i nothing_read).ids ≡ (get_or seats i nothing_read).ids
+same_ids books seats i book seat less inside book_is seat_is agreed =
+    sym (ap (λ (f : Followed). f.ids) (book_is ∙ get_or_default books i book nothing_read less)) ∙ (agreed ∙ ap (λ (f : Followed). f.ids) (seat_is ∙ get_or_default seats i seat nothing_read inside))
+
+pub agreed_more : (books seats : List Followed) (i : ℕ) → (get_or books i nothing_read).ids ≡ (get_or seats i nothing_read).ids
+    → ((k : ℕ) → k < i → (get_or books k nothing_read).ids ≡ (get_or seats k nothing_read).ids)
+    → (k : ℕ) → k < i + 1 → (get_or books k nothing_read).ids ≡ (get_or seats k nothing_read).ids
+agreed_more books seats i here before = λ k less. below_more (λ j. (get_or books j nothing_read).ids ≡ (get_or seats j nothing_read).ids) i before here k less
 
 -- ---- a start
 

@@ -27,8 +27,8 @@ pub lines_end : (names : List (Bor (List ℕ))) (totals : List Totals) (i : ℕ)
 lines_end names totals i past = rw (drop_all i names past) refl
 
 -- what holds of a value that a call returned
-pub of_ok : {X F : Type 0} {P : X → Type 0} {ran : Result X F} (x : X) → ran ≡ Ok x → IfOk ran P → P x
-of_ok {P = P} x is holds = subst (λ r. IfOk r P) is holds
+pub of_ok : {X F : Type 0} (P : X → Type 0) {ran : Result X F} (x : X) → ran ≡ Ok x → IfOk ran P → P x
+of_ok P x is holds = subst (λ r. IfOk r P) is holds
 
 -- what sessions did over documents of these names, and what was written of it
 pub serves : {C : Type 0} (bytes : C → Bytes) (follows : C → C → Type 0) (origin : ℕ → Origin) (last : List Doc) (shelved names : List (List ℕ)) (connections : List C)

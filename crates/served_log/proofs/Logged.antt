@@ -1,5 +1,5 @@
 -- The stored log has just the operations that are logged.
-use Rattle.std.proofs.Common.{arith, ap, ◌≡◌, ◌<◌, ◌+◌, ◌∙◌, subst, sym, refl, ℕ, zero, suc, List, [], ◌∷◌, length, map, get_or, Option}
+use Rattle.std.proofs.Common.{arith, ap, ◌≡◌, ◌<◌, ◌∙◌, subst, sym, refl, ℕ, suc, List, [], ◌∷◌, length, map, get_or, Option}
 use Rattle.std.proofs.lemmas.List.{get_or-map, length-map}
 use Rattle.share_ledger.specs.Begun.{Origin}
 use Rattle.doc_api.specs.Words.{Id, Op}
@@ -7,7 +7,7 @@ use Rattle.doc_rules.specs.Seats as seats
 use Rattle.doc_rules.specs.Seats.{Seat, operation_ids}
 use Rattle.locked_doc.specs.Followed.{Followed}
 use Rattle.locked_doc.specs.declared.gather.Totals.{Totals}
-use Rattle.server_core.specs.Sums.{AreBooksFrom, AreTotals, AreTotalsFrom, ids_read, later_ends}
+use Rattle.server_core.specs.Sums.{AreTotals, AreTotalsFrom, ids_read, later_ends}
 use Rattle.stored_log.specs.Docs.{Doc, log_of}
 use Rattle.served_log.specs.Known.{AllDiffer, AreKnown, IsKnown, nothing_read}
 use Rattle.served_log.specs.Totals.{AreLoggedFrom, AreStored, IsStored}
@@ -21,7 +21,7 @@ rows_are {read = read} {t = t} last name of stored known =
     let rows : List Op = log_of name last in
     let logged : t.logged ≡ length log = ap (λ (sums : seats.Totals). sums.logged) of.added in
     let long : length (operation_ids rows) ≡ length (operation_ids log) =
-    length-map (λ (op : Op). op.id) rows ∙ (sym stored.0 ∙ (logged ∙ sym (length-map (λ (op : Op). op.id) log))) in
+    length-map rows (λ (op : Op). op.id) ∙ (sym stored.0 ∙ (logged ∙ sym (length-map log (λ (op : Op). op.id)))) in
     prefix_whole (operation_ids rows) (operation_ids log) (prefix_trans (operation_ids rows) read (operation_ids log) known of.followed) long
 
 pub logged_from : (origin : ℕ → Origin) (number : ℕ) (sessions : List (List (Option Seat))) (all : List (List ℕ)) (last : List Doc) (names : List (List ℕ)) (read : List (List Id)) (totals : List Totals)
@@ -54,10 +54,3 @@ known_read last names books seats many agreed known k less =
     let same : (get_or seats k nothing_read).ids ≡ get_or (ids_read books) k [] =
     sym (agreed k inside there) ∙ sym (get_or-map (λ (book : Followed). book.ids) books k nothing_read [] inside) in
     subst (λ ids. IsKnown last (get_or names k []) ids) same (known.each k less)
-
--- the book in this place has its number
-pub book_at : (number : ℕ) (books : List Followed) → AreBooksFrom number books → (k : ℕ) (book : Followed) → k < length books → book ≡ get_or books k book → book.number ≡ number + k
-book_at number [] are k book less is = absurd (omega arith)
-book_at number (first ∷ books) are zero book less is = ap (λ (b : Followed). b.number) is ∙ (are.0 ∙ omega arith)
-book_at number (first ∷ books) are (suc k) book less is =
-    let later : book.number ≡ suc number + k = book_at (suc number) books are.1 k book (omega arith) is in omega (arith, later)

@@ -42,8 +42,8 @@ named_here docs names replica origin number are = subst (λ (f : ℕ → Origin)
 pub all_seated : (kept : List Doc) (names : List (Bor (List ℕ))) (i : ℕ) (seats : List Followed) → i ≡ length names → length seats ≡ i
     → ((k : ℕ) → k < i → IsKnown kept (get_or names k no_name).now (get_or seats k nothing_read).ids) → AreKnown kept (map (λ s. s.now) names) seats
 all_seated kept names i seats past long known = record {
-  many = long ∙ (past ∙ sym (length-map (λ (s : Bor (List ℕ)). s.now) names));
+  many = long ∙ (past ∙ sym (length-map names (λ (s : Bor (List ℕ)). s.now)));
   each = λ k less.
-      let inside : k < length names = omega (arith, less, length-map (λ (s : Bor (List ℕ)). s.now) names) in
+      let inside : k < length names = omega (arith, less, length-map names (λ (s : Bor (List ℕ)). s.now)) in
       subst (λ n. IsKnown kept n (get_or seats k nothing_read).ids) (sym (get_or-map (λ (s : Bor (List ℕ)). s.now) names k no_name [] inside)) (known k (omega (arith, inside, past)));
 }

@@ -1,5 +1,5 @@
 //! The handles by which a copier reads documents.
-ghost use Rattle.std.specs.Prelude.{◌≡◌, ◌<◌, ◌++◌, ◌∷◌, [], length, get_or, IfErr, OnOk};
+ghost use Rattle.std.specs.Prelude.{◌≡◌, ◌<◌, ℕ, length, get_or};
 ghost use Rattle.server_core.specs.Sums.{AreBooksFrom};
 ghost use Rattle.served_log.specs.Known.{nothing_read};
 
@@ -53,8 +53,17 @@ impl<M: Marker> CopierSeats<M> {
     }
 }
 
-/// What each document left for its copier agrees with the copier's seat there: both have read the
-/// same operations. At run time it does nothing.
+// What the document of this place left for its copier agrees with the copier's seat there.
+fn agree_at<M: Marker>(books: &[CopierBook<M>], seats: &CopierSeats<M>, i: usize)
+    requires books { AreBooksFrom 0 books.now }
+    requires there { (i < length books.now) × (i < length seats.now) }
+    ensures { (get_or books.now i nothing_read).ids ≡ (get_or seats.now i nothing_read).ids }
+{
+    books[i].agree(&seats.seats[i]);
+}
+
+// What each document left for its copier agrees with the copier's seat there: both have read the
+// same operations. At run time it does nothing.
 pub(crate) fn agree_each<M: Marker>(books: &[CopierBook<M>], seats: &CopierSeats<M>)
     requires { AreBooksFrom 0 books.now }
     ensures { (k : ℕ) → k < length books.now → k < length seats.now
@@ -62,6 +71,6 @@ pub(crate) fn agree_each<M: Marker>(books: &[CopierBook<M>], seats: &CopierSeats
 {
     let both = books.len().min(seats.seats.len());
     for i in 0..both {
-        books[i].agree(&seats.seats[i]);
+        agree_at(books, seats, i);
     }
 }

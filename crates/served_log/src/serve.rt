@@ -1,7 +1,7 @@
 //! The stages of a server over a stored log, from its replica name to the totals.
 ghost use Rattle.std.specs.Prelude.{◌≡◌, ◌⊎◌, ◌≤◌, List, Option, None, false, length, map};
 ghost use Rattle.std.specs.Prelude.{IfOk, IfErr, OnOk, vec_len};
-ghost use Rattle.doc_rules.specs.Seats as seats;
+ghost use Rattle.doc_rules.specs.Seats.{Seat};
 ghost use Rattle.locked_doc.specs.Numbers.{greatest_number};
 ghost use Rattle.server_core.specs.Attended.{AreServed};
 ghost use Rattle.server_core.specs.Sums.{AreBooksFrom, AreTotalsFrom, ids_read};
@@ -63,7 +63,7 @@ fn run_beside_copier<
     copier: Copier<'a, M, L, T>,
     ran: &mut Result<Gathered<M>, Failure>,
 ) -> Copier<'a, M, L, T>
-    ensures sessions { IfOk ran.new (λ g. (given : List (List (Option seats.Seat)))
+    ensures sessions { IfOk ran.new (λ g. (given : List (List (Option Seat)))
         × AreServed M.origin sessions.entry.shared.names.items C.bytes C.follows sessions.entry.connections.items
         (map (λ t. t.items) g.endings.items) given
         × AreTotalsFrom M.origin 0 given (ids_read g.followed.items) g.totals.items) }
@@ -113,7 +113,7 @@ fn serve_with_copier<M: Marker + Send + Sync, R: Host, C: Connect, G: Gate + Syn
     seats: CopierSeats<M>,
     stored: &mut L,
 ) -> (Result<Gathered<M>, Failure>, CopyEnd, CopierSeats<M>)
-    ensures sessions { IfOk result.0 (λ g. (given : List (List (Option seats.Seat)))
+    ensures sessions { IfOk result.0 (λ g. (given : List (List (Option Seat)))
         × AreServed M.origin sessions.entry.shared.names.items C.bytes C.follows sessions.entry.connections.items
         (map (λ t. t.items) g.endings.items) given
         × AreTotalsFrom M.origin 0 given (ids_read g.followed.items) g.totals.items) }
@@ -138,9 +138,10 @@ fn serve_with_copier<M: Marker + Send + Sync, R: Host, C: Connect, G: Gate + Syn
     };
     let copier = Copier::new(stored, &logger, seats);
     let mut ran = Err(Failure::Memory(Step::Begin));
-    let copier = run_beside_copier(rt, alloc, sessions, copier, &mut ran);
+    let mut copier = run_beside_copier(rt, alloc, sessions, copier, &mut ran);
     let met = copier.met();
-    let (fault, seats) = copier.end();
+    let seats = copier.take_seats(alloc);
+    let fault = copier.end();
     note_ended(rt);
     (ran, CopyEnd { fault, met }, seats)
 }

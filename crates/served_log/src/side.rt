@@ -9,6 +9,8 @@ use crate::observer::CopyObserver;
 use crate::recovery::Recovery;
 use server_core::{Pace, SharedDocuments, Side, Signalled};
 use share_ledger::Marker;
+use std::alloc::Global;
+use std::mem;
 use std::sync::Wait;
 use stored_log::{Fault, MAX_BATCH, StoredFault, StoredLog, reason_of};
 
@@ -269,20 +271,28 @@ impl<'a, M: Marker, L: StoredLog, T: CopyObserver> Copier<'a, M, L, T> {
         self.met
     }
 
-    /// Returns the fault that ended the copying, if one did, and the seats.
-    pub fn end(self) -> (Option<Fault>, CopierSeats<M>)
+    // Takes the seats out of it. It has none then.
+    pub(crate) fn take_seats(&mut self, alloc: Global) -> CopierSeats<M>
+        ensures seats { result ≡ self.old.seats }
+        ensures stored { self.new.stored ≡ self.old.stored }
+        ensures fault { self.new.fault ≡ self.old.fault }
+    {
+        mem::replace(&mut self.seats, CopierSeats::new(alloc))
+    }
+
+    /// Returns the fault that ended the copying, if one did.
+    pub fn end(self) -> Option<Fault>
         ensures left { self.exit.0.now ≡ self.entry.stored.now }
-        ensures fault { result.0 ≡ self.entry.fault }
-        ensures seats { result.1 ≡ self.entry.seats }
+        ensures fault { result ≡ self.entry.fault }
     {
         let Copier {
             stored: _,
             observer: _,
-            seats,
+            seats: _,
             fault,
             met: _,
         } = self;
-        (fault, seats)
+        fault
     }
 }
 

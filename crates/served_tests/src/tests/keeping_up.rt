@@ -101,7 +101,7 @@ fn runs_beside<M: Marker + Send + Sync, R: Threads + Wait + Sync, L: StoredLog>(
     let observer = CountsRows { rows: gate.rows };
     let copier = Copier::new(copy, &observer, seats);
     let (gathered, copier) = run_sessions(rt, alloc, shared, scripts, gate, copier);
-    let (fault, _seats) = copier.end();
+    let fault = copier.end();
     Ok(gathered.is_ok() && fault.is_none())
 }
 
