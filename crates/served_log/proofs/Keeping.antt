@@ -22,7 +22,7 @@ no_batches {origin = origin} {names = names} {old = old} same = record {
 -- What a copier left, if it ran at all, of the log and of its seats. It did where the sessions could
 -- be gathered.
 abbrev pub IsLeft : {L X F : Type 0} → (ℕ → Origin) → (L → LogState) → Result X F → List (List ℕ) → L → L → List Followed → List Followed → Option Fault → Type 0
-IsLeft origin log ran names old new before after fault = (OnOk ran ⊥ × (new ≡ old)) ⊎ HasCopied origin names (log old) (log new) before after fault
+IsLeft origin log ran names old new before after fault = (OnOk ran ⊥ × (new ≡ old) × (after ≡ before)) ⊎ HasCopied origin names (log old) (log new) before after fault
 
 -- the same, stated of what the copier was lent
 pub same_left : {L X F : Type 0} (origin : ℕ → Origin) (log : L → LogState) (ran : Result X F) {names : List (List ℕ)} {a old b new : L} {c before d after : List Followed} {f fault : Option Fault}

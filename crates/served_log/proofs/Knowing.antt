@@ -17,7 +17,7 @@ use Rattle.stored_log.specs.declared.fault.Fault.{Fault}
 use Rattle.stored_log.specs.declared.fault.Fault.TheVariants.{Memory, Store}
 use Rattle.stored_log.proofs.DocLemmas.{batch_added, batch_others}
 use Rattle.served_log.specs.Batches.{AddsMany, AddsOf}
-use Rattle.served_log.specs.Known.{AllDiffer, AreKnown, AreNumbered, AreReadFrom, IsKnown, StaysKnown, nothing_read}
+use Rattle.served_log.specs.Known.{AllDiffer, AreKnown, AreNumbered, AreReadFrom, HoldsPrefix, StaysKnown, nothing_read}
 
 -- ---- prefixes
 
@@ -52,11 +52,11 @@ read_there from d read (Ok ops) unless all =
     ∙ ap (take most_rows) (sym (drop-map (λ (op : Op). op.id) from d.replica.log)) ∙ ap (λ ids. take most_rows (drop from ids)) (sym all)
 read_there from d read (Err cause) unless all = tt
 
-pub known_grown : (docs : List Doc) (name : List ℕ) (before after : List Id) → IsPrefix before after → IsKnown docs name before → IsKnown docs name after
+pub known_grown : (docs : List Doc) (name : List ℕ) (before after : List Id) → IsPrefix before after → HoldsPrefix docs name before → HoldsPrefix docs name after
 known_grown docs name before after grows known = prefix_trans (operation_ids (log_of name docs)) before after known grows
 
 known_added : (docs : List Doc) (name : List ℕ) (ops : List Op) (from : ℕ) (before after : List Id) → from ≡ length (log_of name docs) → AreReadFrom from ops after → IsPrefix before after
-    → IsKnown docs name before → IsKnown (add_batch name ops docs) name after
+    → HoldsPrefix docs name before → HoldsPrefix (add_batch name ops docs) name after
 known_added docs name ops from before after behind read grows known =
     let rows : List Id = operation_ids (log_of name docs) in
     let many : from ≡ length rows = behind ∙ sym (length-map (log_of name docs) (λ (op : Op). op.id)) in
@@ -66,17 +66,17 @@ known_added docs name ops from before after behind read grows known =
 
 -- the entries that were read next were added
 pub known_next : {name : List ℕ} {many from : ℕ} {old new : List Doc} {entries next : List Op} (before after : List Id) → from ≡ length (log_of name old) → entries ≡ next → AreReadFrom from next after
-    → IsPrefix before after → (adds : AddsMany name many old new) × (adds.next.ops ≡ entries) → IsKnown old name before → IsKnown new name after
+    → IsPrefix before after → (adds : AddsMany name many old new) × (adds.next.ops ≡ entries) → HoldsPrefix old name before → HoldsPrefix new name after
 known_next {name = n} {from = k} {old = old} before after behind read_is read grows (adds, these) known =
-    subst (λ docs. IsKnown docs n after) (sym adds.next.added)
+    subst (λ docs. HoldsPrefix docs n after) (sym adds.next.added)
     (known_added old n adds.next.ops k before after behind (subst (λ ops. AreReadFrom k ops after) (sym (these ∙ read_is)) read) grows known)
 
 -- the log stayed as it was, up to a fault of the store
 pub known_kept : {L X : Type 0} (docs : L → List Doc) (name : List ℕ) (old new : L) (before after : List Id) (r : Result X Fault) (e : Fault) → r ≡ Err e → IsPrefix before after
-    → (e ≡ Store) ⊎ (new ≡ old) → (r ≡ Err Store) ⊎ (IsKnown (docs old) name before → IsKnown (docs new) name after)
+    → (e ≡ Store) ⊎ (new ≡ old) → (r ≡ Err Store) ⊎ (HoldsPrefix (docs old) name before → HoldsPrefix (docs new) name after)
 known_kept docs name old new before after r e is grows (inl store) = inl (is ∙ ap Err store)
 known_kept docs name old new before after r e is grows (inr same) =
-    inr (λ known. subst (λ l. IsKnown (docs l) name after) (sym same) (known_grown (docs old) name before after grows known))
+    inr (λ known. subst (λ l. HoldsPrefix (docs l) name after) (sym same) (known_grown (docs old) name before after grows known))
 
 -- ---- all documents
 
@@ -92,30 +92,30 @@ others_stay origin number docs name (Err e) old new some none (inr same) = inr (
 
 -- the seat in one place, and the others
 known_at : (names : List (List ℕ)) (old new : List Doc) (seats : List Followed) (i : ℕ) (name : List ℕ) (seat : Followed) → i < length names → name ≡ get_or names i []
-    → ((other : List ℕ) → name ≢ other → log_of other new ≡ log_of other old) → (IsKnown old name (get_or seats i nothing_read).ids → IsKnown new name seat.ids)
-    → AllDiffer names → AreKnown old names seats → (k : ℕ) → k < length names → Dec (k ≡ i) → IsKnown new (get_or names k []) (get_or (set seats i seat) k nothing_read).ids
+    → ((other : List ℕ) → name ≢ other → log_of other new ≡ log_of other old) → (HoldsPrefix old name (get_or seats i nothing_read).ids → HoldsPrefix new name seat.ids)
+    → AllDiffer names → AreKnown old names seats → (k : ℕ) → k < length names → Dec (k ≡ i) → HoldsPrefix new (get_or names k []) (get_or (set seats i seat) k nothing_read).ids
 known_at names old new seats i name seat within named others here differ known k less (yes same) =
     let inside : i < length seats = omega (arith, within, known.many) in
     let it : get_or (set seats i seat) k nothing_read ≡ seat = ap (λ j. get_or (set seats i seat) j nothing_read) same ∙ get_or-set_same seats i seat nothing_read inside in
     let name_is : name ≡ get_or names k [] = named ∙ ap (λ j. get_or names j []) (sym same) in
-    let was : IsKnown old name (get_or seats i nothing_read).ids = subst (λ n. IsKnown old n (get_or seats i nothing_read).ids) (sym named) (known.each i within) in
-    subst (λ n. IsKnown new n (get_or (set seats i seat) k nothing_read).ids) name_is (subst (λ (f : Followed). IsKnown new name f.ids) (sym it) (here was))
+    let was : HoldsPrefix old name (get_or seats i nothing_read).ids = subst (λ n. HoldsPrefix old n (get_or seats i nothing_read).ids) (sym named) (known.each i within) in
+    subst (λ n. HoldsPrefix new n (get_or (set seats i seat) k nothing_read).ids) name_is (subst (λ (f : Followed). HoldsPrefix new name f.ids) (sym it) (here was))
 known_at names old new seats i name seat within named others here differ known k less (no away) =
     let it : get_or (set seats i seat) k nothing_read ≡ get_or seats k nothing_read = get_or-set_other seats i k seat nothing_read away in
     let apart : name ≢ get_or names k [] = λ is. away (sym (differ i k within less (sym named ∙ is))) in
     let rows : log_of (get_or names k []) new ≡ log_of (get_or names k []) old = others (get_or names k []) apart in
-    subst (λ (f : Followed). IsKnown new (get_or names k []) f.ids) (sym it)
+    subst (λ (f : Followed). HoldsPrefix new (get_or names k []) f.ids) (sym it)
     (subst (λ (log : List Op). IsPrefix (operation_ids log) (get_or seats k nothing_read).ids) (sym rows) (known.each k less))
 
 -- up to a fault of the store
 pub known_behind : {A : Type 0} (names : List (List ℕ)) (old new : List Doc) (seats : List Followed) (i : ℕ) (name : List ℕ) (was seat : Followed) → i < length names → i < length seats
     → name ≡ get_or names i [] → was ≡ get_or seats i was → A ⊎ ((other : List ℕ) → name ≢ other → log_of other new ≡ log_of other old)
-    → A ⊎ (IsKnown old name was.ids → IsKnown new name seat.ids) → A ⊎ StaysKnown names old seats new (set seats i seat)
+    → A ⊎ (HoldsPrefix old name was.ids → HoldsPrefix new name seat.ids) → A ⊎ StaysKnown names old seats new (set seats i seat)
 known_behind names old new seats i name was seat within inside named read (inl store) here = inl store
 known_behind names old new seats i name was seat within inside named read (inr others) (inl store) = inl store
 known_behind names old new seats i name was seat within inside named read (inr others) (inr here) =
     let it : was ≡ get_or seats i nothing_read = read ∙ get_or_default seats i was nothing_read inside in
-    let there : IsKnown old name (get_or seats i nothing_read).ids → IsKnown new name seat.ids = subst (λ (f : Followed). IsKnown old name f.ids → IsKnown new name seat.ids) it here in
+    let there : HoldsPrefix old name (get_or seats i nothing_read).ids → HoldsPrefix new name seat.ids = subst (λ (f : Followed). HoldsPrefix old name f.ids → HoldsPrefix new name seat.ids) it here in
     inr (λ differ known. record {
       many = length-set seats i seat ∙ known.many;
       each = λ k less. known_at names old new seats i name seat within named others there differ known k less (native.Mathlib.Decide.ℕ_discrete k i);
@@ -211,11 +211,11 @@ agreed_more books seats i here before = λ k less. below_more (λ j. (get_or boo
 -- the seats of one document more, which were just opened there
 pub one_seated : (docs : List Doc) (names : List (Bor (List ℕ))) (i : ℕ) (name : Bor (List ℕ)) (seats new : List Followed) (seat : Followed) → i < length names
     → length seats ≡ i → new ≡ seats ++ seat ∷ [] → seat.ids ≡ operation_ids (log_of (get_or names i name).now docs)
-    → ((k : ℕ) → k < i → IsKnown docs (get_or names k name).now (get_or seats k nothing_read).ids)
-    → (k : ℕ) → k < i + 1 → IsKnown docs (get_or names k name).now (get_or new k nothing_read).ids
+    → ((k : ℕ) → k < i → HoldsPrefix docs (get_or names k name).now (get_or seats k nothing_read).ids)
+    → (k : ℕ) → k < i + 1 → HoldsPrefix docs (get_or names k name).now (get_or new k nothing_read).ids
 one_seated docs names i name seats new seat within long pushed read before k less = go (native.Mathlib.Decide.ℕ_discrete k i)
   where
-    go : Dec (k ≡ i) → IsKnown docs (get_or names k name).now (get_or new k nothing_read).ids
+    go : Dec (k ≡ i) → HoldsPrefix docs (get_or names k name).now (get_or new k nothing_read).ids
     go (yes same) =
         let it : get_or new k nothing_read ≡ seat = ap (λ fs. get_or fs k nothing_read) pushed ∙ get_or_push seats seat nothing_read k (long ∙ sym same) in
         let ids : (get_or new k nothing_read).ids ≡ operation_ids (log_of (get_or names k name).now docs) =
@@ -226,4 +226,4 @@ one_seated docs names i name seats new seat within long pushed read before k les
         let early : k < i = omega (arith, inside, long) in
         let it : get_or new k nothing_read ≡ get_or seats k nothing_read =
         ap (λ fs. get_or fs k nothing_read) pushed ∙ get_or_append_left seats (seat ∷ []) nothing_read k inside in
-        subst (λ (f : Followed). IsKnown docs (get_or names k name).now f.ids) (sym it) (before k early)
+        subst (λ (f : Followed). HoldsPrefix docs (get_or names k name).now f.ids) (sym it) (before k early)

@@ -20,14 +20,14 @@ AreReadFrom from ops read = operation_ids ops ≡ take most_rows (drop from read
 
 -- What the stored log has of the document of this name is a prefix of what was read of it, by the
 -- ids.
-abbrev pub IsKnown : List Doc → List ℕ → List Id → Type 0
-IsKnown docs name read = IsPrefix (operation_ids (log_of name docs)) read
+abbrev pub HoldsPrefix : List Doc → List ℕ → List Id → Type 0
+HoldsPrefix docs name read = IsPrefix (operation_ids (log_of name docs)) read
 
 -- of each document of these names, in their order
 pub record AreKnown (docs : List Doc) (names : List (List ℕ)) (seats : List Followed) : Type 0 where
   pub many : length seats ≡ length names
   pub each : (k : ℕ) → k < length names
-      → IsKnown docs (get_or names k []) (get_or seats k nothing_read).ids
+      → HoldsPrefix docs (get_or names k []) (get_or seats k nothing_read).ids
 
 -- no two documents have one name
 abbrev pub AllDiffer : List (List ℕ) → Type 0

@@ -9,7 +9,7 @@ ghost use Rattle.stored_log.specs.Docs.{IsBatch, add_batch, log_of};
 ghost use Rattle.stored_log.specs.Log.{IsAddedOrNot, ShowsBatchOrNot};
 ghost use Rattle.served_log.specs.Batches.{AddsMany, AddsOf, AreAdded, AreAddedUpTo, AddsBatches};
 ghost use Rattle.served_log.specs.Batches.{IsNextOf};
-ghost use Rattle.served_log.specs.Known.{AreReadFrom, IsKnown, StaysKnown};
+ghost use Rattle.served_log.specs.Known.{AreReadFrom, HoldsPrefix, StaysKnown};
 
 use crate::copier_seats::CopierSeats;
 use crate::document_to_copy::DocumentToCopy;
@@ -198,8 +198,8 @@ pub fn copy_some<M: Marker, R: Wait, L: StoredLog, T: CopyObserver>(
         → AddsOf M.origin document.now.doc_index document.now.name.now count (L.log stored.old).docs (L.log stored.new).docs) }
     ensures none { result ≡ Ok 0 → stored.new ≡ stored.old }
     ensures known { (result ≡ Err Fault.Store)
-        ⊎ (IsKnown (L.log stored.old).docs document.now.name.now seat.old.ids
-        → IsKnown (L.log stored.new).docs document.now.name.now seat.new.ids) }
+        ⊎ (HoldsPrefix (L.log stored.old).docs document.now.name.now seat.old.ids
+        → HoldsPrefix (L.log stored.new).docs document.now.name.now seat.new.ids) }
     ensures stays { seat.new.number ≡ seat.old.number }
     ensures works { OnOk result (((L.log stored.new).epoch ≡ (L.log stored.old).epoch)
         × ((L.log stored.new).has_failed ≡ false)) }

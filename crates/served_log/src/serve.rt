@@ -70,10 +70,12 @@ fn run_beside_copier<
     ensures books { IfOk ran.new (λ g. AreBooksFrom 0 g.followed.items) }
     ensures each { IfOk ran.new (λ g. vec_len g.totals ≡ length sessions.entry.shared.names.items) }
     ensures same_reference { result.stored.ghost_name ≡ copier.entry.stored.ghost_name }
+    ensures same_seats { result.seats.ghost_name ≡ copier.entry.seats.ghost_name }
     // The copier has run, or memory ran out before the first session.
-    ensures left { (OnOk ran.new ⊥ × (result.stored.now ≡ copier.entry.stored.now))
+    ensures left { (OnOk ran.new ⊥ × (result.stored.now ≡ copier.entry.stored.now)
+        × (result.seats.now ≡ copier.entry.seats.now))
         ⊎ HasCopied M.origin sessions.entry.shared.names.items (L.log copier.entry.stored.now) (L.log result.stored.now)
-        copier.entry.seats result.seats result.fault }
+        copier.entry.seats.now result.seats.now result.fault }
 {
     let Sessions {
         names: _,
@@ -105,14 +107,14 @@ struct CopyEnd {
 }
 
 // Serves the connections while a copier with these seats runs. It returns what the sessions did, or
-// why that could not be gathered, how the copying ended, and the seats.
+// why that could not be gathered, and how the copying ended.
 fn serve_with_copier<M: Marker + Send + Sync, R: Host, C: Connect, G: Gate + Sync, L: StoredLog>(
     rt: &R,
     alloc: Global,
     sessions: Sessions<'_, M, C, G>,
-    seats: CopierSeats<M>,
+    seats: &mut CopierSeats<M>,
     stored: &mut L,
-) -> (Result<Gathered<M>, Failure>, CopyEnd, CopierSeats<M>)
+) -> (Result<Gathered<M>, Failure>, CopyEnd)
     ensures sessions { IfOk result.0 (λ g. (given : List (List (Option Seat)))
         × AreServed M.origin sessions.entry.shared.names.items C.bytes C.follows sessions.entry.connections.items
         (map (λ t. t.items) g.endings.items) given
@@ -120,9 +122,9 @@ fn serve_with_copier<M: Marker + Send + Sync, R: Host, C: Connect, G: Gate + Syn
     ensures books { IfOk result.0 (λ g. AreBooksFrom 0 g.followed.items) }
     ensures each { IfOk result.0
         (λ g. vec_len g.totals ≡ length sessions.entry.shared.names.items) }
-    ensures left { (OnOk result.0 ⊥ × (stored.new ≡ stored.old))
+    ensures left { (OnOk result.0 ⊥ × (stored.new ≡ stored.old) × (seats.new ≡ seats.old))
         ⊎ HasCopied M.origin sessions.entry.shared.names.items (L.log stored.old) (L.log stored.new)
-        seats result.2 result.1.fault }
+        seats.old seats.new result.1.fault }
 {
     let pace = sessions.shared.progress.pace();
     let deadline = match sessions.connections.first() {
@@ -136,14 +138,13 @@ fn serve_with_copier<M: Marker + Send + Sync, R: Host, C: Connect, G: Gate + Syn
         pace,
         deadline,
     };
-    let copier = Copier::new(stored, &logger, seats);
+    let copier = Copier::new(stored, seats, &logger);
     let mut ran = Err(Failure::Memory(Step::Begin));
-    let mut copier = run_beside_copier(rt, alloc, sessions, copier, &mut ran);
+    let copier = run_beside_copier(rt, alloc, sessions, copier, &mut ran);
     let met = copier.met();
-    let seats = copier.take_seats(alloc);
     let fault = copier.end();
     note_ended(rt);
-    (ran, CopyEnd { fault, met }, seats)
+    (ran, CopyEnd { fault, met })
 }
 
 // The outcome once the totals are written: a failure where the copying ended before all was copied,
@@ -209,7 +210,8 @@ fn serve_sessions<
     ensures alone { (L.log stored.new).is_alone ≡ (L.log stored.old).is_alone }
 {
     let names = sessions.names;
-    let (ran, copied, seats) = serve_with_copier(rt, alloc, sessions, seats, stored);
+    let mut seats = seats;
+    let (ran, copied) = serve_with_copier(rt, alloc, sessions, &mut seats, stored);
     let gathered = ran?;
     agree_each(gathered.followed.as_slice(), &seats);
     let totals = gathered.totals.as_slice();

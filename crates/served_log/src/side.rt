@@ -9,8 +9,6 @@ use crate::observer::CopyObserver;
 use crate::recovery::Recovery;
 use server_core::{Pace, SharedDocuments, Side, Signalled};
 use share_ledger::Marker;
-use std::alloc::Global;
-use std::mem;
 use std::sync::Wait;
 use stored_log::{Fault, MAX_BATCH, StoredFault, StoredLog, reason_of};
 
@@ -236,10 +234,10 @@ fn notify_stopped<T: CopyObserver, L: StoredLog>(observer: &T, fault: &Option<Fa
 pub struct Copier<'a, M: Marker, L: StoredLog, T: CopyObserver> {
     /// The stored log.
     pub stored: &'a mut L,
+    /// By these it reads the documents.
+    pub seats: &'a mut CopierSeats<M>,
     /// Is notified of each batch and of a fault.
     pub observer: &'a T,
-    /// By these it reads the documents.
-    pub seats: CopierSeats<M>,
     /// The fault that ended the copying, if one did. Without one all is copied, or memory lacked to
     /// the end.
     pub fault: Option<Fault>,
@@ -249,16 +247,21 @@ pub struct Copier<'a, M: Marker, L: StoredLog, T: CopyObserver> {
 
 impl<'a, M: Marker, L: StoredLog, T: CopyObserver> Copier<'a, M, L, T> {
     /// A copier that has copied nothing yet, with its seats in the documents.
-    pub fn new(stored: &'a mut L, observer: &'a T, seats: CopierSeats<M>) -> Copier<'a, M, L, T>
+    pub fn new(
+        stored: &'a mut L,
+        seats: &'a mut CopierSeats<M>,
+        observer: &'a T,
+    ) -> Copier<'a, M, L, T>
         ensures same_reference { result.stored.ghost_name ≡ stored.entry.ghost_name }
+        ensures same_seats { result.seats.ghost_name ≡ seats.entry.ghost_name }
         ensures stored { result.stored.now ≡ stored.old }
-        ensures seats { result.seats ≡ seats }
+        ensures seats { result.seats.now ≡ seats.old }
         ensures fault { result.fault ≡ None }
     {
         Copier {
             stored,
-            observer,
             seats,
+            observer,
             fault: None,
             met: None,
         }
@@ -271,24 +274,16 @@ impl<'a, M: Marker, L: StoredLog, T: CopyObserver> Copier<'a, M, L, T> {
         self.met
     }
 
-    // Takes the seats out of it. It has none then.
-    pub(crate) fn take_seats(&mut self, alloc: Global) -> CopierSeats<M>
-        ensures seats { result ≡ self.old.seats }
-        ensures stored { self.new.stored ≡ self.old.stored }
-        ensures fault { self.new.fault ≡ self.old.fault }
-    {
-        mem::replace(&mut self.seats, CopierSeats::new(alloc))
-    }
-
     /// Returns the fault that ended the copying, if one did.
     pub fn end(self) -> Option<Fault>
         ensures left { self.exit.0.now ≡ self.entry.stored.now }
+        ensures read { self.exit.1.0.now ≡ self.entry.seats.now }
         ensures fault { result ≡ self.entry.fault }
     {
         let Copier {
             stored: _,
-            observer: _,
             seats: _,
+            observer: _,
             fault,
             met: _,
         } = self;
@@ -298,12 +293,21 @@ impl<'a, M: Marker, L: StoredLog, T: CopyObserver> Copier<'a, M, L, T> {
 
 impl<M: Marker, L: StoredLog, T: CopyObserver> Side<M> for Copier<'_, M, L, T> {
     ghost becomes = { λ names old new. (new.stored.ghost_name ≡ old.stored.ghost_name)
-        × HasCopied M.origin names (L.log old.stored.now) (L.log new.stored.now) old.seats new.seats new.fault };
+        × (new.seats.ghost_name ≡ old.seats.ghost_name)
+        × HasCopied M.origin names (L.log old.stored.now) (L.log new.stored.now)
+        old.seats.now new.seats.now new.fault };
 
     fn run<R: Wait>(&mut self, rt: &R, shared: &SharedDocuments<M>, sessions: u64) {
         let mut recovery = Recovery::new(sessions);
-        let seats = &mut self.seats;
-        self.fault = keep_up(rt, shared, seats, self.stored, self.observer, &mut recovery).err();
+        self.fault = keep_up(
+            rt,
+            shared,
+            self.seats,
+            self.stored,
+            self.observer,
+            &mut recovery,
+        )
+        .err();
         self.met = recovery.met;
         // Nothing is copied from now on, so nobody waits for it.
         shared.progress.stop();

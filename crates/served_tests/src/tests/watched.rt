@@ -112,13 +112,13 @@ pub fn shared_documents<M: Marker, L: StoredLog>(
 fn faults_of<M: Marker, R: Wait, L: StoredLog>(
     rt: &R,
     shared: &SharedDocuments<M>,
-    seats: CopierSeats<M>,
+    seats: &mut CopierSeats<M>,
     sessions: u64,
     copy: &mut L,
 ) -> u32 {
     let times = Mutex::new(0);
     let counting = Counting { rt, times: &times };
-    let mut copier = Copier::new(copy, &counting, seats);
+    let mut copier = Copier::new(copy, seats, &counting);
     copier.run(rt, shared, sessions);
     let _why = copier.end();
     times.into_inner()
@@ -141,8 +141,8 @@ fn faults_beside<M: Marker, R: Wait, F: StoredLog, L: StoredLog>(
         ≡ origin_at replica.now (F.log full.now).docs (map (λ s. s.now) documents.now) }
     requires few { length documents.now ≤ greatest_number }
 {
-    let (shared, seats) = shared_documents::<M, F>(alloc, blank, full, replica, documents)?;
-    Ok(faults_of::<M, R, L>(rt, &shared, seats, sessions, copy))
+    let (shared, mut seats) = shared_documents::<M, F>(alloc, blank, full, replica, documents)?;
+    Ok(faults_of::<M, R, L>(rt, &shared, &mut seats, sessions, copy))
 }
 
 /// Copies a document with three operations to the log beside so many sessions, none of which ends,

@@ -29,8 +29,8 @@ returns-in-Ok-clause-served g c =
     let names = map (λ s. s.now) c.args.sessions.names.now in
     let written : Appends (g.W.Write.contents c.args.out.now) (g.W.Write.contents c.write_totals.new.out) (total_lines names gathered.totals.items) = search rules in
     let copied = copied_if_ran g.M.Marker.origin g.L.StoredLog.log _ gathered c.in_ok-gathered.was c.requires.named c.serve_with_copier-ran.ensures.left in
-    let agreed : (k : ℕ) → k < length gathered.followed.items → k < length c.serve_with_copier-ran.result.2 → (get_or gathered.followed.items k nothing_read).ids ≡ (get_or c.serve_with_copier-ran.result.2 k nothing_read).ids =
-    subst (λ bs. (k : ℕ) → k < length bs → k < length c.serve_with_copier-ran.result.2 → (get_or bs k nothing_read).ids ≡ (get_or c.serve_with_copier-ran.result.2 k nothing_read).ids) books c.agree_each.ensures in
+    let agreed : (k : ℕ) → k < length gathered.followed.items → k < length c.serve_with_copier-ran.new.seats → (get_or gathered.followed.items k nothing_read).ids ≡ (get_or c.serve_with_copier-ran.new.seats k nothing_read).ids =
+    subst (λ bs. (k : ℕ) → k < length bs → k < length c.serve_with_copier-ran.new.seats → (get_or bs k nothing_read).ids ≡ (get_or c.serve_with_copier-ran.new.seats k nothing_read).ids) books c.agree_each.ensures in
     ok_of_both c.outcome_of.result c.outcome_of.ensures.copied c.outcome_of.ensures.stored
     (λ well stored. serves g.C.Connect.bytes g.C.Connect.follows g.M.Marker.origin _ _ names _ (map (λ t. t.items) gathered.endings.items) given gathered.followed.items _ gathered.totals.items _ _
     c.requires.named served added (sym gathered.totals.ok.0 ∙ many) agreed (known_if_well copied well c.requires.known) (subst (AreStored _ names) same stored) written)
