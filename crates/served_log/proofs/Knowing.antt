@@ -1,5 +1,5 @@
 -- What the stored log has is a prefix of what a copier has read.
-use Rattle.std.proofs.Common.{arith, ap, ap₂, ◌+◌, ◌++◌, ◌∷◌, ◌≡◌, ◌≢◌, ◌<◌, ◌≤◌, ◌⊎◌, inl, inr, Result, Ok, Err, IfOk, IfErr, length, List, [], ℕ, zero, suc, map, take, drop, set, get_or, ◌∙◌, subst, sym, refl, zero-lt-suc, below_more, append_assoc, append-nil, length-append, length-set, take-append-drop, get_or-set_same, get_or-set_other}
+use Rattle.std.proofs.Common.{arith, ap, ap₂, ◌+◌, ◌++◌, ◌∷◌, ◌≡◌, ◌≢◌, ◌<◌, ◌⊎◌, inl, inr, Result, Ok, Err, IfOk, IfErr, length, List, [], ℕ, zero, suc, take, drop, set, get_or, ◌∙◌, subst, sym, refl, zero-lt-suc, below_more, append_assoc, append-nil, length-append, length-set, take-append-drop, get_or-set_same, get_or-set_other}
 use Rattle.std.proofs.lemmas.List.{drop-map, get_or_append_left, get_or_default, get_or_push, length-map, length_push, map-append, nil_from_length, take-map}
 use Rattle.std.proofs.Math.Seq.{drop-append_seam}
 use Rattle.std.specs.Borrow.{Bor}
