@@ -4,3 +4,5 @@ mod Keeping
 mod Left
 mod Storing
 pub mod Adding
+mod Knowing
+mod Logged

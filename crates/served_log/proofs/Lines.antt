@@ -1,16 +1,19 @@
 -- What a server writes.
-use Rattle.std.proofs.Common.{◌≡◌, ◌<◌, ◌≤◌, ◌+◌, ◌++◌, ℕ, List, [], map, drop, get_or, length, Option, Result, Ok, IfOk, vec_len, refl, sym, ap, subst, ◌∙◌, add-one, drop-cons}
+use Rattle.std.proofs.Common.{◌≡◌, ◌<◌, ◌≤◌, ◌+◌, ◌++◌, ℕ, List, [], map, drop, get_or, length, Option, Result, Ok, IfOk, refl, ap, subst, ◌∙◌, add-one, drop-cons}
 use Rattle.std.proofs.lemmas.List.{drop_all}
 use Rattle.std.specs.Borrow.{Bor}
 use Rattle.std.specs.Io.KnownBytes.{Appends}
+use Rattle.session_rules.specs.declared.Ending.{Ending}
 use Rattle.doc_rules.specs.Seats.{Seat}
+use Rattle.locked_doc.specs.Followed.{Followed}
 use Rattle.locked_doc.specs.declared.gather.Totals.{Totals}
-use Rattle.server_core.specs.declared.gathering.Gathered.{Gathered}
 use Rattle.server_core.specs.Attended.{AreServed, Bytes}
-use Rattle.server_core.specs.Sums.{AreTotalsFrom}
+use Rattle.server_core.specs.Sums.{AreTotalsFrom, ids_read}
 use Rattle.share_ledger.specs.Begun.{Origin}
 use Rattle.stored_log.specs.Docs.{Doc}
+use Rattle.served_log.specs.Known.{AllDiffer, AreKnown, nothing_read}
 use Rattle.served_log.specs.Totals.{AreStored, ServesSessions, total_line, total_lines}
+use Rattle.served_log.proofs.Logged.{books_long, known_read, logged_from}
 
 -- the line of one document, and those of the documents behind it
 pub lines_step : (names : List (Bor (List ℕ))) (totals : List Totals) (i : ℕ) (n : Bor (List ℕ)) (t : Totals) → i < length names → i < length totals
@@ -23,26 +26,25 @@ pub lines_end : (names : List (Bor (List ℕ))) (totals : List Totals) (i : ℕ)
     → total_lines (map (λ s. s.now) (drop i names)) (drop i totals) ≡ []
 lines_end names totals i past = rw (drop_all i names past) refl
 
+-- what holds of a value that a call returned
+pub of_ok : {X F : Type 0} (P : X → Type 0) {ran : Result X F} (x : X) → ran ≡ Ok x → IfOk ran P → P x
+of_ok P x is holds = subst (λ r. IfOk r P) is holds
+
 -- what sessions did over documents of these names, and what was written of it
 pub serves : {C : Type 0} (bytes : C → Bytes) (follows : C → C → Type 0) (origin : ℕ → Origin) (last : List Doc) (shelved names : List (List ℕ)) (connections : List C)
-    {F : Type 0} {ran : Result Gathered F} (gathered : Gathered) (out_before out_after : Option (List ℕ)) → ran ≡ Ok gathered
-    → IfOk ran (λ g. (given : List (List (Option Seat))) × AreServed origin shelved bytes follows connections (map (λ t. t.items) g.endings.items) given
-    × AreTotalsFrom origin 0 given g.totals.items)
-    → IfOk ran (λ g. vec_len g.totals ≡ length shelved)
-    → shelved ≡ names → AreStored last names gathered.totals.items
-    → Appends out_before out_after (total_lines names gathered.totals.items) → ServesSessions bytes follows origin last names connections out_before out_after
-serves bytes follows origin last shelved names connections gathered out_before out_after is sessions each same stored written =
-    let (given, served, added) = subst
-    (λ ran. IfOk ran (λ g. (given : List (List (Option Seat))) × AreServed origin shelved bytes follows connections (map (λ t. t.items) g.endings.items) given
-    × AreTotalsFrom origin 0 given g.totals.items)) is sessions in
-    let many : vec_len gathered.totals ≡ length shelved = subst (λ ran. IfOk ran (λ g. vec_len g.totals ≡ length shelved)) is each in
-    record {
-      endings = map (λ t. t.items) gathered.endings.items;
+    (endings : List (List (Option Ending))) (given : List (List (Option Seat))) (books seats : List Followed) (totals : List Totals) (out_before out_after : Option (List ℕ))
+    → shelved ≡ names → AreServed origin shelved bytes follows connections endings given → AreTotalsFrom origin 0 given (ids_read books) totals → length totals ≡ length shelved
+    → ((k : ℕ) → k < length books → k < length seats → (get_or books k nothing_read).ids ≡ (get_or seats k nothing_read).ids) → (AllDiffer names → AreKnown last names seats)
+    → AreStored last names totals → Appends out_before out_after (total_lines names totals) → ServesSessions bytes follows origin last names connections out_before out_after
+serves bytes follows origin last shelved names connections endings given books seats totals out_before out_after same served added many agreed known stored written =
+    let each : length totals ≡ length names = many ∙ ap length same in record {
+      endings = endings;
       given = given;
-      totals = gathered.totals.items;
-      served = subst (λ ns. AreServed origin ns bytes follows connections (map (λ t. t.items) gathered.endings.items) given) same served;
-      each = sym gathered.totals.ok.0 ∙ many ∙ ap length same;
-      added = added;
+      totals = totals;
+      served = subst (λ ns. AreServed origin ns bytes follows connections endings given) same served;
+      each = each;
+      added = logged_from origin 0 given names last names (ids_read books) totals added stored
+          (λ k less differ. known_read last names books seats (books_long origin 0 given books totals added ∙ each) agreed (known differ) k less);
       stored = stored;
       written = written;
     }

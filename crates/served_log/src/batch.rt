@@ -4,46 +4,60 @@ ghost use Rattle.std.specs.Prelude.{true, false, IfOk, IfErr, OnOk, Ok, Err};
 ghost use Rattle.json_scalar.specs.Refusal.{UnlessMemory};
 ghost use Rattle.doc_api.specs.Words.{Op};
 ghost use Rattle.doc_rules.specs.Document.{copied_to, tail};
+ghost use Rattle.locked_doc.specs.Followed.{IsPrefix};
 ghost use Rattle.stored_log.specs.Docs.{IsBatch, add_batch, log_of};
 ghost use Rattle.stored_log.specs.Log.{IsAddedOrNot, ShowsBatchOrNot};
 ghost use Rattle.served_log.specs.Batches.{AddsMany, AddsOf, AreAdded, AreAddedUpTo, AddsBatches};
 ghost use Rattle.served_log.specs.Batches.{IsNextOf};
+ghost use Rattle.served_log.specs.Known.{AreReadFrom, HoldsPrefix, StaysKnown};
 
+use crate::copier_seats::CopierSeats;
 use crate::document_to_copy::DocumentToCopy;
 use crate::observer::CopyObserver;
 use crate::recovery::{Recovery, recover};
 use doc_api::Operations;
 use json_scalar::Refusal;
-use locked_doc::LockedDoc;
+use locked_doc::{CopierSeat, LockedDoc};
 use server_core::{SharedDocuments, lock_document};
 use share_ledger::Marker;
 use std::sync::Wait;
 use stored_log::{Fault, MAX_BATCH, StoredLog};
 
 // The entries from this index on of the document, which has this number: at most a batch of them.
+// Its copier then has read all that is logged.
 fn next_of<M: Marker>(
-    doc: &LockedDoc<M>,
+    doc: &mut LockedDoc<M>,
     _doc_index: usize,
+    seat: &mut CopierSeat<M>,
     from: usize,
 ) -> Result<Operations, Refusal>
-    requires { doc.now.number ≡ _doc_index }
-    ensures tail { UnlessMemory result (Ok (tail from MAX_BATCH doc.now.document)) }
+    requires number { doc.old.number ≡ _doc_index }
+    requires seat { seat.old.number ≡ _doc_index }
+    ensures tail { UnlessMemory result (Ok (tail from MAX_BATCH doc.old.document)) }
     ensures next { IfOk result (IsNextOf M.origin _doc_index from) }
+    ensures read { IfOk result (λ entries. AreReadFrom from entries seat.new.ids) }
+    ensures grows { IsPrefix seat.old.ids seat.new.ids }
+    ensures stays { seat.new.number ≡ seat.old.number }
 {
     doc.keeps_sound();
-    doc.tail(from, MAX_BATCH)
+    doc.tail_for(seat, from, MAX_BATCH)
 }
 
 // The next entries of the document. Its lock is held while they are read.
 fn next_at<M: Marker, R: Wait>(
     rt: &R,
     document: &DocumentToCopy<'_, M>,
+    seat: &mut CopierSeat<M>,
     from: usize,
 ) -> Result<Operations, Refusal>
-    ensures { IfOk result (IsNextOf M.origin document.now.doc_index from) }
+    requires { seat.old.number ≡ document.now.doc_index }
+    ensures next { IfOk result (IsNextOf M.origin document.now.doc_index from) }
+    ensures read { IfOk result (λ entries. AreReadFrom from entries seat.new.ids) }
+    ensures grows { IsPrefix seat.old.ids seat.new.ids }
+    ensures stays { seat.new.number ≡ seat.old.number }
 {
-    let doc = lock_document(rt, document.shared, document.doc_index, 0);
-    next_of(&doc, document.doc_index, from)
+    let mut doc = lock_document(rt, document.shared, document.doc_index, 0);
+    next_of(&mut doc, document.doc_index, seat, from)
 }
 
 // Notes in the document how many of its entries the stored log has: so many.
@@ -164,22 +178,29 @@ fn note_written<M: Marker, R: Wait, L: StoredLog>(
     Ok(())
 }
 
-/// Copies the next entries of the document, at most 256. Then it notes in the document how many of
-/// its entries the stored log has, and notifies the sessions that wait for them and the observer.
-/// It returns how many it copied. The document's lock isn't held while they are written. If the
-/// store fails it is opened again until they are in it; `recovery` has the fault then. The error
-/// is `Memory`, or `Refused` for a batch that doesn't follow, with the stored log unchanged; or
-/// `Store` once that has failed and can't be opened again. Then nothing is noted.
+/// Copies the next entries of the document, at most 256, which it reads by the copier's seat there.
+/// So what the stored log has of the document stays a prefix of what was read of it. Then it notes
+/// in the document how many of its entries the stored log has, and notifies the sessions that wait
+/// for them and the observer. It returns how many it copied. The document's lock isn't held while
+/// they are written. If the store fails it is opened again until they are in it; `recovery` has the
+/// fault then. The error is `Memory`, or `Refused` for a batch that doesn't follow, with the stored
+/// log unchanged; or `Store` once that has failed and can't be opened again. Then nothing is noted.
 pub fn copy_some<M: Marker, R: Wait, L: StoredLog, T: CopyObserver>(
     rt: &R,
     document: &DocumentToCopy<'_, M>,
+    seat: &mut CopierSeat<M>,
     stored: &mut L,
     observer: &T,
     recovery: &mut Recovery,
 ) -> Result<usize, Fault>
+    requires { seat.old.number ≡ document.now.doc_index }
     ensures some { IfOk result (λ count. 0 < count
         → AddsOf M.origin document.now.doc_index document.now.name.now count (L.log stored.old).docs (L.log stored.new).docs) }
     ensures none { result ≡ Ok 0 → stored.new ≡ stored.old }
+    ensures known { (result ≡ Err Fault.Store)
+        ⊎ (HoldsPrefix (L.log stored.old).docs document.now.name.now seat.old.ids
+        → HoldsPrefix (L.log stored.new).docs document.now.name.now seat.new.ids) }
+    ensures stays { seat.new.number ≡ seat.old.number }
     ensures works { OnOk result (((L.log stored.new).epoch ≡ (L.log stored.old).epoch)
         × ((L.log stored.new).has_failed ≡ false)) }
     ensures err { IfErr result (λ e. (e ≡ Fault.Store) ⊎ (stored.new ≡ stored.old)) }
@@ -188,7 +209,7 @@ pub fn copy_some<M: Marker, R: Wait, L: StoredLog, T: CopyObserver>(
 {
     let from = stored.rows(document.name)?;
     publish(document, stored, from);
-    let Ok(next) = next_at(rt, document, from) else {
+    let Ok(next) = next_at(rt, document, seat, from) else {
         return Err(Fault::Memory);
     };
     if next.as_slice().is_empty() {
@@ -208,6 +229,36 @@ pub fn copy_some<M: Marker, R: Wait, L: StoredLog, T: CopyObserver>(
     Ok(next.as_slice().len())
 }
 
+// Copies the next entries of the document by the copier's seat there, as `copy_some`. Where the
+// copier has no seat there it is refused.
+fn copy_seated<M: Marker, R: Wait, L: StoredLog, T: CopyObserver>(
+    rt: &R,
+    document: &DocumentToCopy<'_, M>,
+    seats: &mut CopierSeats<M>,
+    stored: &mut L,
+    observer: &T,
+    recovery: &mut Recovery,
+) -> Result<usize, Fault>
+    ensures some { IfOk result (λ count. 0 < count
+        → AddsOf M.origin document.now.doc_index document.now.name.now count (L.log stored.old).docs (L.log stored.new).docs) }
+    ensures none { result ≡ Ok 0 → stored.new ≡ stored.old }
+    ensures known { (result ≡ Err Fault.Store) ⊎ StaysKnown document.now.shared.now.names.items
+        (L.log stored.old).docs seats.old (L.log stored.new).docs seats.new }
+    ensures works { OnOk result (((L.log stored.new).epoch ≡ (L.log stored.old).epoch)
+        × ((L.log stored.old).has_failed ≡ false → (L.log stored.new).has_failed ≡ false)) }
+    ensures err { IfErr result (λ e. (e ≡ Fault.Store) ⊎ (stored.new ≡ stored.old)) }
+    ensures failed { result ≡ Err Fault.Store → (L.log stored.new).has_failed ≡ true }
+    ensures works_on { (result ≡ Err Fault.Store)
+        ⊎ ((L.log stored.old).has_failed ≡ false → (L.log stored.new).has_failed ≡ false) }
+    ensures alone { (L.log stored.new).is_alone ≡ (L.log stored.old).is_alone }
+{
+    if document.doc_index >= seats.seats.len() {
+        return Err(Fault::Refused);
+    }
+    let seat = &mut seats.seats[document.doc_index];
+    copy_some(rt, document, seat, stored, observer, recovery)
+}
+
 /// Publishes to waiting sessions how many entries of each document the stored log has. Once that
 /// has failed it publishes nothing.
 pub(crate) fn publish_all<M: Marker, L: StoredLog>(shared: &SharedDocuments<M>, stored: &L) {
@@ -220,11 +271,13 @@ pub(crate) fn publish_all<M: Marker, L: StoredLog>(shared: &SharedDocuments<M>, 
 }
 
 /// Copies the next entries of each document, at most 256 of each, and returns how many it copied of
-/// the document of which it copied most. The errors are those of `copy_some`: what was copied
-/// before the error stays.
+/// the document of which it copied most. It reads each document by the copier's seat there. The
+/// errors are those of `copy_some`, and `Refused` where the copier has no seat in a document: what
+/// was copied before the error stays.
 pub fn copy_each<M: Marker, R: Wait, L: StoredLog, T: CopyObserver>(
     rt: &R,
     shared: &SharedDocuments<M>,
+    seats: &mut CopierSeats<M>,
     stored: &mut L,
     observer: &T,
     recovery: &mut Recovery,
@@ -234,6 +287,9 @@ pub fn copy_each<M: Marker, R: Wait, L: StoredLog, T: CopyObserver>(
     ensures most { IfOk result (λ most. AreAddedUpTo M.origin shared.now.names.items
         (L.log stored.old).docs most (L.log stored.new).docs) }
     ensures none { result ≡ Ok 0 → (L.log stored.new).docs ≡ (L.log stored.old).docs }
+    // What the stored log has of each document stays a prefix of what was read of it.
+    ensures known { (result ≡ Err Fault.Store) ⊎ StaysKnown shared.now.names.items
+        (L.log stored.old).docs seats.old (L.log stored.new).docs seats.new }
     ensures works { OnOk result (((L.log stored.new).epoch ≡ (L.log stored.old).epoch)
         × ((L.log stored.old).has_failed ≡ false → (L.log stored.new).has_failed ≡ false)) }
     ensures err { IfErr result (λ e. (e ≡ Fault.Store)
@@ -246,7 +302,7 @@ pub fn copy_each<M: Marker, R: Wait, L: StoredLog, T: CopyObserver>(
     let mut most: usize = 0;
     for doc_index in 0..shared.names.len() {
         let document = DocumentToCopy::at(shared, doc_index);
-        let count = copy_some(rt, &document, stored, observer, recovery)?;
+        let count = copy_seated(rt, &document, seats, stored, observer, recovery)?;
         most = most.max(count);
     }
     Ok(most)

@@ -7,6 +7,7 @@
 #![tactic(auto)]
 
 mod batch;
+mod copier_seats;
 mod document_to_copy;
 mod failure;
 mod file_state;
@@ -24,6 +25,7 @@ mod side;
 mod stored;
 
 pub use batch::{copy_each, copy_some};
+pub use copier_seats::CopierSeats;
 pub use document_to_copy::DocumentToCopy;
 pub use failure::{Failure, Step};
 pub use file_state::{FileReport, FileState};

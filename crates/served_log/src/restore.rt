@@ -5,12 +5,15 @@ ghost use Rattle.share_ledger.specs.Begun.{MayBeNamed};
 ghost use Rattle.doc_rules.specs.Document.{new_document};
 ghost use Rattle.locked_doc.specs.Numbers.{greatest_number};
 ghost use Rattle.stored_log.specs.Docs.{log_of};
+ghost use Rattle.doc_rules.specs.Seats.{operation_ids};
+ghost use Rattle.served_log.specs.Known.{AreKnown};
 ghost use Rattle.served_log.specs.Restored.{origin_at, restored};
 
+use crate::copier_seats::CopierSeats;
 use json_scalar::Refusal;
 use lamport_id::ReplicaName;
 use line_proto::Name;
-use locked_doc::{Ledger, LockedDoc, Shelf};
+use locked_doc::{CopierSeat, Ledger, LockedDoc, Shelf};
 use server_core::{Pace, Progress, SharedDocuments, Signal};
 use share_ledger::Marker;
 use std::alloc::Global;
@@ -24,6 +27,8 @@ pub struct RestoredDocuments<M: Marker> {
     pub names: Vec<Name>,
     /// The documents, as many as there are names.
     pub docs: Vec<LockedDoc<M>>,
+    /// The copier's seats in them, in order.
+    pub seats: CopierSeats<M>,
     ghost as_many: { length names.items ≡ length docs.items },
 }
 
@@ -49,27 +54,32 @@ pub struct Restoring<'a, L> {
     pub seats: u16,
 }
 
-// Restores the document of this name.
+// Restores the document of this name, and opens the copier's seat there.
 fn restore_one<M: Marker, L: StoredLog>(
     alloc: Global,
     ledger: &mut Ledger<M>,
     from: &Restoring<'_, L>,
     name: &str,
-) -> Result<LockedDoc<M>, Fault>
+) -> Result<(LockedDoc<M>, CopierSeat<M>), Fault>
     requires number { 1 ≤ greatest_number - ledger.old }
     requires begun { log_of name.now (L.log from.now.stored.now).docs ≡ (M.origin ledger.old).log }
     requires named { MayBeNamed (M.origin ledger.old) from.now.replica.now }
-    ensures made { IfOk result (λ doc. doc.document
+    ensures made { IfOk result (λ made. made.0.document
         ≡ new_document from.now.replica.now (log_of name.now (L.log from.now.stored.now).docs) from.now.seats) }
-    ensures next { IfOk result (λ doc. ledger.new ≡ ledger.old + 1) }
+    ensures seat { IfOk result (λ made. (made.1.number ≡ ledger.old)
+        × (made.1.ids ≡ operation_ids (log_of name.now (L.log from.now.stored.now).docs))) }
+    ensures next { OnOk result (ledger.new ≡ ledger.old + 1) }
     ensures never_refused { IfErr result (λ e. (e ≡ Fault.Store) ⊎ (e ≡ Fault.Memory)) }
     ensures failed { result ≡ Err Fault.Store → (L.log from.now.stored.now).has_failed ≡ true }
 {
     let log = from.stored.load(alloc, name)?;
-    match ledger.of_log(alloc, from.replica, log, from.seats) {
-        Ok(doc) => Ok(doc),
-        Err(_) => Err(Fault::Memory),
-    }
+    let Ok(mut doc) = ledger.of_log(alloc, from.replica, log, from.seats) else {
+        return Err(Fault::Memory);
+    };
+    let Some(seat) = doc.open_copier() else {
+        unreachable!();
+    };
+    Ok((doc, seat))
 }
 
 // Pushes the document.
@@ -83,36 +93,42 @@ fn push_doc<M: Marker>(docs: &mut Vec<LockedDoc<M>>, doc: LockedDoc<M>) -> Resul
     }
 }
 
-// Restores the documents of these names. They are the first of a ledger.
+// Restores the documents of these names, and opens the copier's seats there. They are the first of a
+// ledger.
 fn restore_all<M: Marker, L: StoredLog>(
     alloc: Global,
     ledger: &mut Ledger<M>,
     from: &Restoring<'_, L>,
     names: &[&str],
-) -> Result<Vec<LockedDoc<M>>, Fault>
+) -> Result<(Vec<LockedDoc<M>>, CopierSeats<M>), Fault>
     requires few { length names.now ≤ greatest_number }
     requires first { ledger.old ≡ 0 }
     requires begun { M.origin
         ≡ origin_at from.now.replica.now (L.log from.now.stored.now).docs (map
         (λ s. s.now) names.now) }
-    ensures documents { IfOk result (λ docs. map (λ d. d.document) docs.items
+    ensures documents { IfOk result (λ made. map (λ d. d.document) made.0.items
         ≡ map (λ n. new_document from.now.replica.now (log_of n (L.log from.now.stored.now).docs) from.now.seats)
         (map (λ s. s.now) names.now)) }
-    ensures each { IfOk result (λ docs. length docs.items ≡ length names.now) }
+    ensures each { IfOk result (λ made. length made.0.items ≡ length names.now) }
+    ensures known { IfOk result
+        (λ made. AreKnown (L.log from.now.stored.now).docs (map (λ s. s.now) names.now) made.1) }
     ensures never_refused { IfErr result (λ e. (e ≡ Fault.Store) ⊎ (e ≡ Fault.Memory)) }
     ensures failed { result ≡ Err Fault.Store → (L.log from.now.stored.now).has_failed ≡ true }
 {
     let mut docs = Vec::new(alloc);
+    let mut seats = CopierSeats::new(alloc);
     for name in names {
-        let doc = restore_one(alloc, ledger, from, name)?;
+        let (doc, seat) = restore_one(alloc, ledger, from, name)?;
         push_doc(&mut docs, doc)?;
+        seats.push(seat)?;
     }
-    Ok(docs)
+    Ok((docs, seats))
 }
 
 /// Restores the documents of these names from the stored log. Their entries belong to seat 0, and
-/// are noted as copied. They are the first documents of the ledger. The error is `Memory`, or
-/// `Store` once the stored log has failed; never `Refused`.
+/// are noted as copied. The copier has a seat in each, and has read what is stored. They are the
+/// first documents of the ledger. The error is `Memory`, or `Store` once the stored log has failed;
+/// never `Refused`.
 pub fn restore_documents<M: Marker, L: StoredLog>(
     alloc: Global,
     ledger: &mut Ledger<M>,
@@ -128,28 +144,35 @@ pub fn restore_documents<M: Marker, L: StoredLog>(
     ensures documents { IfOk result (λ made. map (λ d. d.document) made.docs.items
         ≡ restored from.now.replica.now (L.log from.now.stored.now).docs from.now.seats (map
         (λ s. s.now) names.now)) }
+    ensures known { IfOk result
+        (λ made. AreKnown (L.log from.now.stored.now).docs (map (λ s. s.now) names.now) made.seats) }
     ensures never_refused { IfErr result (λ e. (e ≡ Fault.Store) ⊎ (e ≡ Fault.Memory)) }
     ensures failed { result ≡ Err Fault.Store → (L.log from.now.stored.now).has_failed ≡ true }
 {
     let Ok(made) = copy_names(alloc, names) else {
         return Err(Fault::Memory);
     };
-    let docs = restore_all(alloc, ledger, from, names)?;
-    Ok(RestoredDocuments { names: made, docs })
+    let (docs, seats) = restore_all(alloc, ledger, from, names)?;
+    Ok(RestoredDocuments {
+        names: made,
+        docs,
+        seats,
+    })
 }
 
-/// Puts the documents behind locks, in order. Replies to changes of them go out at this
-/// pace. The one error is `NoMemory`.
+/// Puts the documents behind locks, in order, and returns the copier's seats beside. Replies to
+/// changes of them go out at this pace. The one error is `NoMemory`.
 pub fn share_documents<M: Marker>(
     alloc: Global,
     restored: RestoredDocuments<M>,
     pace: Pace,
-) -> Result<SharedDocuments<M>, Refusal>
-    ensures names { IfOk result (λ shared. shared.names.items ≡ restored.names.items) }
-    ensures pace { IfOk result (λ shared. shared.progress.pace ≡ pace) }
+) -> Result<(SharedDocuments<M>, CopierSeats<M>), Refusal>
+    ensures names { IfOk result (λ made. made.0.names.items ≡ restored.names.items) }
+    ensures seats { IfOk result (λ made. made.1 ≡ restored.seats) }
+    ensures pace { IfOk result (λ made. made.0.progress.pace ≡ pace) }
     ensures memory { IfErr result (λ cause. cause ≡ Refusal.NoMemory) }
 {
-    let RestoredDocuments { names, docs } = restored;
+    let RestoredDocuments { names, docs, seats } = restored;
     let Ok(progress) = Progress::new(alloc, names.len(), pace) else {
         return Err(Refusal::NoMemory);
     };
@@ -159,10 +182,11 @@ pub fn share_documents<M: Marker>(
             return Err(Refusal::NoMemory);
         }
     }
-    Ok(SharedDocuments {
+    let shared = SharedDocuments {
         names,
         shelf,
         signal: Signal::new(),
         progress,
-    })
+    };
+    Ok((shared, seats))
 }

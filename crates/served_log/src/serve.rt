@@ -1,23 +1,25 @@
 //! The stages of a server over a stored log, from its replica name to the totals.
 ghost use Rattle.std.specs.Prelude.{◌≡◌, ◌⊎◌, ◌≤◌, List, Option, None, false, length, map};
 ghost use Rattle.std.specs.Prelude.{IfOk, IfErr, OnOk, vec_len};
-ghost use Rattle.doc_rules.specs.Seats as seats;
+ghost use Rattle.doc_rules.specs.Seats.{Seat};
 ghost use Rattle.locked_doc.specs.Numbers.{greatest_number};
 ghost use Rattle.server_core.specs.Attended.{AreServed};
-ghost use Rattle.server_core.specs.Sums.{AreTotalsFrom};
+ghost use Rattle.server_core.specs.Sums.{AreBooksFrom, AreTotalsFrom, ids_read};
 ghost use Rattle.served_log.specs.Batches.{AddsBatches, HasCopied};
+ghost use Rattle.served_log.specs.Known.{AreKnown};
 ghost use Rattle.served_log.specs.Named.{replica_name};
 ghost use Rattle.served_log.specs.Restored.{origin_at};
 ghost use Rattle.served_log.specs.Totals.{AreStored, ServesSessions};
 ghost use Rattle.served_log.specs.Unwritten.{IsUnwritten};
 
+use crate::copier_seats::agree_each;
 use crate::failure::{Failure, Step};
 use crate::notes::{CopyLogger, note_documents};
 use crate::output::write_totals;
 use crate::restore::{RestoredDocuments, Restoring, restore_documents, share_documents};
 use crate::rows::has_all;
 use crate::serving::{Begun, Serving};
-use crate::{Copier, CopyObserver, FileState, Host};
+use crate::{Copier, CopierSeats, CopyObserver, FileState, Host};
 use locked_doc::{Ledger, Totals};
 use log::Log;
 use server_core::{Connect, Gate, Gathered, SharedDocuments, run_sessions};
@@ -58,18 +60,22 @@ fn run_beside_copier<
     rt: &R,
     alloc: Global,
     sessions: Sessions<'_, M, C, G>,
-    copier: Copier<'a, L, T>,
-    ran: &mut Result<Gathered, Failure>,
-) -> Copier<'a, L, T>
-    ensures sessions { IfOk ran.new (λ g. (given : List (List (Option seats.Seat)))
+    copier: Copier<'a, M, L, T>,
+    ran: &mut Result<Gathered<M>, Failure>,
+) -> Copier<'a, M, L, T>
+    ensures sessions { IfOk ran.new (λ g. (given : List (List (Option Seat)))
         × AreServed M.origin sessions.entry.shared.names.items C.bytes C.follows sessions.entry.connections.items
         (map (λ t. t.items) g.endings.items) given
-        × AreTotalsFrom M.origin 0 given g.totals.items) }
+        × AreTotalsFrom M.origin 0 given (ids_read g.followed.items) g.totals.items) }
+    ensures books { IfOk ran.new (λ g. AreBooksFrom 0 g.followed.items) }
     ensures each { IfOk ran.new (λ g. vec_len g.totals ≡ length sessions.entry.shared.names.items) }
     ensures same_reference { result.stored.ghost_name ≡ copier.entry.stored.ghost_name }
+    ensures same_seats { result.seats.ghost_name ≡ copier.entry.seats.ghost_name }
     // The copier has run, or memory ran out before the first session.
-    ensures left { (OnOk ran.new ⊥ × (result.stored.now ≡ copier.entry.stored.now))
-        ⊎ HasCopied M.origin sessions.entry.shared.names.items (L.log copier.entry.stored.now) (L.log result.stored.now) result.fault }
+    ensures left { (OnOk ran.new ⊥ × (result.stored.now ≡ copier.entry.stored.now)
+        × (result.seats.now ≡ copier.entry.seats.now))
+        ⊎ HasCopied M.origin sessions.entry.shared.names.items (L.log copier.entry.stored.now) (L.log result.stored.now)
+        copier.entry.seats.now result.seats.now result.fault }
 {
     let Sessions {
         names: _,
@@ -100,22 +106,25 @@ struct CopyEnd {
     met: Option<StoredFault>,
 }
 
-// Serves the connections while a copier runs. It returns what the sessions did, or why that could
-// not be gathered, and how the copying ended.
+// Serves the connections while a copier with these seats runs. It returns what the sessions did, or
+// why that could not be gathered, and how the copying ended.
 fn serve_with_copier<M: Marker + Send + Sync, R: Host, C: Connect, G: Gate + Sync, L: StoredLog>(
     rt: &R,
     alloc: Global,
     sessions: Sessions<'_, M, C, G>,
+    seats: &mut CopierSeats<M>,
     stored: &mut L,
-) -> (Result<Gathered, Failure>, CopyEnd)
-    ensures sessions { IfOk result.0 (λ g. (given : List (List (Option seats.Seat)))
+) -> (Result<Gathered<M>, Failure>, CopyEnd)
+    ensures sessions { IfOk result.0 (λ g. (given : List (List (Option Seat)))
         × AreServed M.origin sessions.entry.shared.names.items C.bytes C.follows sessions.entry.connections.items
         (map (λ t. t.items) g.endings.items) given
-        × AreTotalsFrom M.origin 0 given g.totals.items) }
+        × AreTotalsFrom M.origin 0 given (ids_read g.followed.items) g.totals.items) }
+    ensures books { IfOk result.0 (λ g. AreBooksFrom 0 g.followed.items) }
     ensures each { IfOk result.0
         (λ g. vec_len g.totals ≡ length sessions.entry.shared.names.items) }
-    ensures left { (OnOk result.0 ⊥ × (stored.new ≡ stored.old))
-        ⊎ HasCopied M.origin sessions.entry.shared.names.items (L.log stored.old) (L.log stored.new) result.1.fault }
+    ensures left { (OnOk result.0 ⊥ × (stored.new ≡ stored.old) × (seats.new ≡ seats.old))
+        ⊎ HasCopied M.origin sessions.entry.shared.names.items (L.log stored.old) (L.log stored.new)
+        seats.old seats.new result.1.fault }
 {
     let pace = sessions.shared.progress.pace();
     let deadline = match sessions.connections.first() {
@@ -129,13 +138,13 @@ fn serve_with_copier<M: Marker + Send + Sync, R: Host, C: Connect, G: Gate + Syn
         pace,
         deadline,
     };
-    let copier = Copier::new(stored, &logger);
+    let copier = Copier::new(stored, seats, &logger);
     let mut ran = Err(Failure::Memory(Step::Begin));
     let copier = run_beside_copier(rt, alloc, sessions, copier, &mut ran);
     let met = copier.met();
-    let why = copier.end();
+    let fault = copier.end();
     note_ended(rt);
-    (ran, CopyEnd { fault: why, met })
+    (ran, CopyEnd { fault, met })
 }
 
 // The outcome once the totals are written: a failure where the copying ended before all was copied,
@@ -169,8 +178,9 @@ fn outcome_of<R: Log + Clock, L: StoredLog>(
     }
 }
 
-// Serves these sessions while a copier runs, and writes the totals at the end. It fails where
-// memory runs out, where the writer fails, or where not all that the sessions logged is stored.
+// Serves these sessions while a copier with these seats runs, and writes the totals at the end. It
+// fails where memory runs out, where the writer fails, or where not all that the sessions logged is
+// stored.
 fn serve_sessions<
     M: Marker + Send + Sync,
     R: Host,
@@ -182,10 +192,12 @@ fn serve_sessions<
     rt: &R,
     alloc: Global,
     sessions: Sessions<'_, M, C, G>,
+    seats: CopierSeats<M>,
     stored: &mut L,
     out: &mut W,
 ) -> Result<(), Failure>
-    requires { sessions.shared.names.items ≡ map (λ s. s.now) sessions.names.now }
+    requires named { sessions.shared.names.items ≡ map (λ s. s.now) sessions.names.now }
+    requires known { AreKnown (L.log stored.old).docs (map (λ s. s.now) sessions.names.now) seats }
     ensures served { OnOk result (ServesSessions C.bytes C.follows M.origin (L.log stored.new).docs (map (λ s. s.now) sessions.entry.names.now)
         sessions.entry.connections.items (W.contents out.old) (W.contents out.new)) }
     ensures unwritten { IfErr result (λ why. IsUnwritten why → out.new ≡ out.old) }
@@ -198,8 +210,10 @@ fn serve_sessions<
     ensures alone { (L.log stored.new).is_alone ≡ (L.log stored.old).is_alone }
 {
     let names = sessions.names;
-    let (ran, copied) = serve_with_copier(rt, alloc, sessions, stored);
+    let mut seats = seats;
+    let (ran, copied) = serve_with_copier(rt, alloc, sessions, &mut seats, stored);
     let gathered = ran?;
+    agree_each(gathered.followed.as_slice(), &seats);
     let totals = gathered.totals.as_slice();
     match write_totals(alloc, names, totals, out) {
         Ok(()) => outcome_of(rt, copied, stored, names, totals),
@@ -219,8 +233,10 @@ fn restore<M: Marker, C, G, L: StoredLog>(
         ≡ origin_at begun.now.replica (L.log stored.now).docs (map
         (λ s. s.now) begun.now.serving.documents.now) }
     requires few { length begun.now.serving.documents.now ≤ greatest_number }
-    ensures { IfOk result
+    ensures names { IfOk result
         (λ made. made.names.items ≡ map (λ s. s.now) begun.now.serving.documents.now) }
+    ensures known { IfOk result (λ made. AreKnown (L.log stored.now).docs
+        (map (λ s. s.now) begun.now.serving.documents.now) made.seats) }
 {
     let mut ledger = Ledger::<M>::new(blank);
     let from = Restoring {
@@ -282,7 +298,7 @@ pub(crate) fn restore_and_serve<
         file,
     } = begun.serving;
     note_documents(rt, file, stored, documents);
-    let Ok(shared) = share_documents(alloc, restored, pace) else {
+    let Ok((shared, seats)) = share_documents(alloc, restored, pace) else {
         return Err(Failure::Memory(Step::Restore));
     };
     let sessions = Sessions {
@@ -292,5 +308,5 @@ pub(crate) fn restore_and_serve<
         gate,
         file,
     };
-    serve_sessions(rt, alloc, sessions, stored, out)
+    serve_sessions(rt, alloc, sessions, seats, stored, out)
 }

@@ -1,8 +1,10 @@
 //! The copier: the background task that stores what sessions log.
 ghost use Rattle.std.specs.Prelude.{◌≡◌, ◌≢◌, ◌⊎◌, OnOk, IfErr, Err, true, false, None};
 ghost use Rattle.served_log.specs.Batches.{AddsBatches, HasCopied};
+ghost use Rattle.served_log.specs.Known.{StaysKnown};
 
 use crate::batch::{copy_each, publish_all};
+use crate::copier_seats::CopierSeats;
 use crate::observer::CopyObserver;
 use crate::recovery::Recovery;
 use server_core::{Pace, SharedDocuments, Side, Signalled};
@@ -136,6 +138,7 @@ fn look<M: Marker, R: Wait, L: StoredLog, T: CopyObserver>(
     rt: &R,
     shared: &SharedDocuments<M>,
     lacked: bool,
+    seats: &mut CopierSeats<M>,
     stored: &mut L,
     observer: &T,
     recovery: &mut Recovery,
@@ -143,6 +146,8 @@ fn look<M: Marker, R: Wait, L: StoredLog, T: CopyObserver>(
     ensures ok { OnOk result (AddsBatches M.origin shared.now.names.items (L.log stored.old) (L.log stored.new)) }
     ensures err { IfErr result (λ e. (e ≡ Fault.Store)
         ⊎ AddsBatches M.origin shared.now.names.items (L.log stored.old) (L.log stored.new)) }
+    ensures known { (result ≡ Err Fault.Store) ⊎ StaysKnown shared.now.names.items
+        (L.log stored.old).docs seats.old (L.log stored.new).docs seats.new }
     ensures memory { result ≢ Err Fault.Memory }
     ensures works { OnOk result ((L.log stored.old).has_failed ≡ false
         → (L.log stored.new).has_failed ≡ false) }
@@ -150,7 +155,7 @@ fn look<M: Marker, R: Wait, L: StoredLog, T: CopyObserver>(
     ensures alone { (L.log stored.new).is_alone ≡ (L.log stored.old).is_alone }
 {
     wait_again(shared, stored, lacked);
-    match copy_each(rt, shared, stored, observer, recovery) {
+    match copy_each(rt, shared, seats, stored, observer, recovery) {
         Ok(most) => {
             notify_going_on(observer, lacked);
             Ok(Found::Some(most))
@@ -175,6 +180,7 @@ fn look<M: Marker, R: Wait, L: StoredLog, T: CopyObserver>(
 pub fn keep_up<M: Marker, R: Wait, L: StoredLog, T: CopyObserver>(
     rt: &R,
     shared: &SharedDocuments<M>,
+    seats: &mut CopierSeats<M>,
     stored: &mut L,
     observer: &T,
     recovery: &mut Recovery,
@@ -184,6 +190,8 @@ pub fn keep_up<M: Marker, R: Wait, L: StoredLog, T: CopyObserver>(
         ⊎ AddsBatches M.origin shared.now.names.items (L.log stored.old) (L.log stored.new)) }
     ensures works { OnOk result ((L.log stored.old).has_failed ≡ false
         → (L.log stored.new).has_failed ≡ false) }
+    ensures known { (result ≡ Err Fault.Store) ⊎ StaysKnown shared.now.names.items
+        (L.log stored.old).docs seats.old (L.log stored.new).docs seats.new }
     ensures memory { result ≢ Err Fault.Memory }
     ensures failed { result ≡ Err Fault.Store → (L.log stored.new).has_failed ≡ true }
     ensures alone { (L.log stored.new).is_alone ≡ (L.log stored.old).is_alone }
@@ -198,7 +206,7 @@ pub fn keep_up<M: Marker, R: Wait, L: StoredLog, T: CopyObserver>(
     };
     let mut lacked = false;
     for _ in rt.forever() {
-        match look(rt, shared, lacked, stored, observer, recovery) {
+        match look(rt, shared, lacked, seats, stored, observer, recovery) {
             Ok(found) => {
                 lacked = lacks(found);
                 watch.tries = tries_after(&watch, found);
@@ -223,9 +231,11 @@ fn notify_stopped<T: CopyObserver, L: StoredLog>(observer: &T, fault: &Option<Fa
 /// Stores what sessions log, as `keep_up`. A fault ends at most the copying. The observer is
 /// notified at once, and the fault is kept.
 #[derive(Drop)]
-pub struct Copier<'a, L: StoredLog, T: CopyObserver> {
+pub struct Copier<'a, M: Marker, L: StoredLog, T: CopyObserver> {
     /// The stored log.
     pub stored: &'a mut L,
+    /// By these it reads the documents.
+    pub seats: &'a mut CopierSeats<M>,
     /// Is notified of each batch and of a fault.
     pub observer: &'a T,
     /// The fault that ended the copying, if one did. Without one all is copied, or memory lacked to
@@ -235,15 +245,22 @@ pub struct Copier<'a, L: StoredLog, T: CopyObserver> {
     pub met: Option<StoredFault>,
 }
 
-impl<'a, L: StoredLog, T: CopyObserver> Copier<'a, L, T> {
-    /// A copier that has copied nothing yet.
-    pub fn new(stored: &'a mut L, observer: &'a T) -> Copier<'a, L, T>
+impl<'a, M: Marker, L: StoredLog, T: CopyObserver> Copier<'a, M, L, T> {
+    /// A copier that has copied nothing yet, with its seats in the documents.
+    pub fn new(
+        stored: &'a mut L,
+        seats: &'a mut CopierSeats<M>,
+        observer: &'a T,
+    ) -> Copier<'a, M, L, T>
         ensures same_reference { result.stored.ghost_name ≡ stored.entry.ghost_name }
+        ensures same_seats { result.seats.ghost_name ≡ seats.entry.ghost_name }
         ensures stored { result.stored.now ≡ stored.old }
+        ensures seats { result.seats.now ≡ seats.old }
         ensures fault { result.fault ≡ None }
     {
         Copier {
             stored,
+            seats,
             observer,
             fault: None,
             met: None,
@@ -260,10 +277,12 @@ impl<'a, L: StoredLog, T: CopyObserver> Copier<'a, L, T> {
     /// Returns the fault that ended the copying, if one did.
     pub fn end(self) -> Option<Fault>
         ensures left { self.exit.0.now ≡ self.entry.stored.now }
+        ensures read { self.exit.1.0.now ≡ self.entry.seats.now }
         ensures fault { result ≡ self.entry.fault }
     {
         let Copier {
             stored: _,
+            seats: _,
             observer: _,
             fault,
             met: _,
@@ -272,13 +291,23 @@ impl<'a, L: StoredLog, T: CopyObserver> Copier<'a, L, T> {
     }
 }
 
-impl<M: Marker, L: StoredLog, T: CopyObserver> Side<M> for Copier<'_, L, T> {
+impl<M: Marker, L: StoredLog, T: CopyObserver> Side<M> for Copier<'_, M, L, T> {
     ghost becomes = { λ names old new. (new.stored.ghost_name ≡ old.stored.ghost_name)
-        × HasCopied M.origin names (L.log old.stored.now) (L.log new.stored.now) new.fault };
+        × (new.seats.ghost_name ≡ old.seats.ghost_name)
+        × HasCopied M.origin names (L.log old.stored.now) (L.log new.stored.now)
+        old.seats.now new.seats.now new.fault };
 
     fn run<R: Wait>(&mut self, rt: &R, shared: &SharedDocuments<M>, sessions: u64) {
         let mut recovery = Recovery::new(sessions);
-        self.fault = keep_up(rt, shared, self.stored, self.observer, &mut recovery).err();
+        self.fault = keep_up(
+            rt,
+            shared,
+            self.seats,
+            self.stored,
+            self.observer,
+            &mut recovery,
+        )
+        .err();
         self.met = recovery.met;
         // Nothing is copied from now on, so nobody waits for it.
         shared.progress.stop();

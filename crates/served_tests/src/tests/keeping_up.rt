@@ -95,11 +95,11 @@ fn runs_beside<M: Marker + Send + Sync, R: Threads + Wait + Sync, L: StoredLog>(
         ≡ origin_at replica.now (L.log copy.old).docs (map (λ s. s.now) documents.now) }
     requires few { length documents.now ≤ greatest_number }
 {
-    let shared = shared_documents::<M, L>(alloc, blank, copy, replica, documents)?;
+    let (shared, mut seats) = shared_documents::<M, L>(alloc, blank, copy, replica, documents)?;
     let replies = Mutex::new(Vec::new(alloc));
     let scripts = vec![in alloc; Script::new(rt, THREE, &replies)]?;
     let observer = CountsRows { rows: gate.rows };
-    let copier = Copier::new(copy, &observer);
+    let copier = Copier::new(copy, &mut seats, &observer);
     let (gathered, copier) = run_sessions(rt, alloc, shared, scripts, gate, copier);
     let fault = copier.end();
     Ok(gathered.is_ok() && fault.is_none())

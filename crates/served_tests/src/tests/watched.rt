@@ -11,7 +11,9 @@ use lamport_id::ReplicaName;
 use locked_doc::Ledger;
 use log::Log;
 use op_core::Operation;
-use served_log::{Copier, CopyObserver, Restoring, restore_documents, share_documents};
+use served_log::{
+    Copier, CopierSeats, CopyObserver, Restoring, restore_documents, share_documents,
+};
 use server_core::{Pace, SharedDocuments, Side};
 use share_ledger::{Blank, Marker};
 use std::alloc::{AllocError, Global};
@@ -76,15 +78,15 @@ pub fn replica_read() -> Result<ReplicaName, AllocError> {
     ReplicaName::read(b"srv-2").ok_or(AllocError)
 }
 
-/// The documents of these names of a stored log behind locks, for this replica. If they
-/// can't be had, as if out of memory.
+/// The documents of these names of a stored log behind locks, for this replica, and the copier's
+/// seats in them. If they can't be had, as if out of memory.
 pub fn shared_documents<M: Marker, L: StoredLog>(
     alloc: Global,
     blank: Blank,
     copy: &L,
     replica: &ReplicaName,
     documents: &[&str],
-) -> Result<SharedDocuments<M>, AllocError>
+) -> Result<(SharedDocuments<M>, CopierSeats<M>), AllocError>
     requires blank { blank ≡ M.name }
     requires begun { M.origin
         ≡ origin_at replica.now (L.log copy.now).docs (map (λ s. s.now) documents.now) }
@@ -100,7 +102,7 @@ pub fn shared_documents<M: Marker, L: StoredLog>(
         return Err(AllocError);
     };
     match share_documents(alloc, restored, Pace::Behind(1)) {
-        Ok(shared) => Ok(shared),
+        Ok(made) => Ok(made),
         Err(_) => Err(AllocError),
     }
 }
@@ -110,12 +112,13 @@ pub fn shared_documents<M: Marker, L: StoredLog>(
 fn faults_of<M: Marker, R: Wait, L: StoredLog>(
     rt: &R,
     shared: &SharedDocuments<M>,
+    seats: &mut CopierSeats<M>,
     sessions: u64,
     copy: &mut L,
 ) -> u32 {
     let times = Mutex::new(0);
     let counting = Counting { rt, times: &times };
-    let mut copier = Copier::new(copy, &counting);
+    let mut copier = Copier::new(copy, seats, &counting);
     copier.run(rt, shared, sessions);
     let _why = copier.end();
     times.into_inner()
@@ -138,8 +141,8 @@ fn faults_beside<M: Marker, R: Wait, F: StoredLog, L: StoredLog>(
         ≡ origin_at replica.now (F.log full.now).docs (map (λ s. s.now) documents.now) }
     requires few { length documents.now ≤ greatest_number }
 {
-    let shared = shared_documents::<M, F>(alloc, blank, full, replica, documents)?;
-    Ok(faults_of::<M, R, L>(rt, &shared, sessions, copy))
+    let (shared, mut seats) = shared_documents::<M, F>(alloc, blank, full, replica, documents)?;
+    Ok(faults_of::<M, R, L>(rt, &shared, &mut seats, sessions, copy))
 }
 
 /// Copies a document with three operations to the log beside so many sessions, none of which ends,

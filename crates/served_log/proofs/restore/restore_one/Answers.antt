@@ -1,9 +1,17 @@
 use Rattle.std.proofs.Common.{ap, ◌∙◌}
-use Rattle.doc_rules.specs.Document.{new_document}
+use Rattle.doc_rules.specs.Document.{Document, new_document}
+use Rattle.doc_rules.specs.Seats.{operation_ids}
 use Rattle.served_log.proofs.restore.restore_one.Goals as goal
 
 pub of_log-requires-clause-begun : goal.of_log-requires-clause-begun
 of_log-requires-clause-begun g c = c.in_ok-log.ensures.ok ∙ c.requires.begun
 
-pub returns-in-Ok-clause-made : goal.returns-in-Ok-clause-made
-returns-in-Ok-clause-made g c = c.in-Ok.ensures.made.1 ∙ ap (λ ops. new_document c.args.from.now.replica.now ops c.args.from.now.seats) c.in_ok-log.ensures.ok
+pub returns-clause-made : goal.returns-clause-made
+returns-clause-made g c =
+    c.in-Some.ensures.document.1 ∙ (c.in-Ok.ensures.made.1 ∙ ap (λ ops. new_document c.args.from.now.replica.now ops c.args.from.now.seats) c.in_ok-log.ensures.ok)
+
+pub returns-clause-seat : goal.returns-clause-seat
+returns-clause-seat g c = (
+  c.in-Some.ensures.seat.0 ∙ c.in-Ok.ensures.made.0,
+  c.in-Some.ensures.seat.1 ∙ (ap (λ (d : Document). operation_ids d.replica.log) c.in-Ok.ensures.made.1 ∙ ap operation_ids c.in_ok-log.ensures.ok),
+)

@@ -1,0 +1,40 @@
+-- What a copier has read of documents, of which the stored log has a prefix.
+use Rattle.std.specs.Prelude.{◌≡◌, ◌<◌, ℕ, List, [], length, get_or, take, drop}
+use Rattle.doc_api.specs.Words.{Id, Op}
+use Rattle.doc_rules.specs.Seats.{operation_ids}
+use Rattle.locked_doc.specs.Followed.{Followed, IsPrefix}
+use Rattle.stored_log.specs.Docs.{Doc, log_of}
+use Rattle.stored_log.specs.Limits.{most_rows}
+
+-- in the place of a seat where there is none
+abbrev pub nothing_read : Followed
+nothing_read = record { number = 0; ids = [] }
+
+-- each seat has the number of its place
+abbrev pub AreNumbered : List Followed → Type 0
+AreNumbered seats = (k : ℕ) → k < length seats → (get_or seats k nothing_read).number ≡ k
+
+-- these are the next operations after so many of those that were read, by their ids
+abbrev pub AreReadFrom : ℕ → List Op → List Id → Type 0
+AreReadFrom from ops read = operation_ids ops ≡ take most_rows (drop from read)
+
+-- What the stored log has of the document of this name is a prefix of what was read of it, by the
+-- ids.
+abbrev pub HoldsPrefix : List Doc → List ℕ → List Id → Type 0
+HoldsPrefix docs name read = IsPrefix (operation_ids (log_of name docs)) read
+
+-- of each document of these names, in their order
+pub record AreKnown (docs : List Doc) (names : List (List ℕ)) (seats : List Followed) : Type 0 where
+  pub many : length seats ≡ length names
+  pub each : (k : ℕ) → k < length names
+      → HoldsPrefix docs (get_or names k []) (get_or seats k nothing_read).ids
+
+-- no two documents have one name
+abbrev pub AllDiffer : List (List ℕ) → Type 0
+AllDiffer names = (i k : ℕ) → i < length names → k < length names
+    → get_or names i [] ≡ get_or names k [] → i ≡ k
+
+-- Where the names differ: what the log has stays a prefix of what was read.
+abbrev pub StaysKnown : List (List ℕ) → List Doc → List Followed → List Doc → List Followed → Type 0
+StaysKnown names old before new after =
+    AllDiffer names → AreKnown old names before → AreKnown new names after
