@@ -4,3 +4,4 @@ mod Keeping
 mod Left
 mod Storing
 pub mod Adding
+mod OwnNames

@@ -5,3 +5,4 @@ pub mod Served
 pub mod Stored
 pub mod Unwritten
 pub mod Batches
+pub mod Restarts

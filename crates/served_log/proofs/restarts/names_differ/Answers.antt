@@ -1,0 +1,5 @@
+use Rattle.served_log.proofs.OwnNames.{own_names}
+use Rattle.served_log.proofs.restarts.names_differ.Goals as goal
+
+pub returns : goal.returns
+returns c = own_names 0
