@@ -6,5 +6,5 @@ ghost use Rattle.served_log.specs.Restarts.{FollowFrom, HaveOwnNames, Run};
 /// epoch that is no smaller than the one that the run before it began, no two servers had the same
 /// name, under whatever NAME they ran. It does nothing.
 pub fn names_differ()
-    ensures { (runs : List Run) → FollowFrom 0 runs → HaveOwnNames runs }
+    ensures names { (runs : List Run) → FollowFrom 0 runs → HaveOwnNames runs }
 {}
