@@ -1,5 +1,6 @@
 -- A server that has served and closed its stored log.
-use Rattle.std.proofs.Common.{◌≡◌, ℕ, Bool, true, false, refl, sym, ap, ◌∙◌, List, [], ◌∷◌, ◌++◌, length, map, Option, Result, subst, map-id}
+use Rattle.std.proofs.Common.{◌≡◌, ℕ, Bool, true, refl, sym, ap, ◌∙◌, List, [], ◌∷◌, ◌++◌, length, map, Option, Result, Ok, Err, IfOk, OnErr, subst, map-id}
+use Rattle.std.specs.Prelude.{MatchResult}
 use Rattle.std.proofs.lemmas.List.{length-map, map-append}
 use Rattle.std.proofs.lemmas.List.Elements.{All-head, All-tail}
 use Rattle.std.specs.List.{All, AllZip}
@@ -10,14 +11,12 @@ use Rattle.server_core.specs.Attended.{AreAttended, AreServed, Bytes, Follow, Is
 use Rattle.std.specs.Bool.{⊤}
 use Rattle.stored_log.specs.Log.{LogState}
 use Rattle.stored_log.specs.declared.port.StoredLog.{Ghosts}
+use Rattle.stored_log.specs.declared.stored_fault.StoredFault.{StoredFault}
 use Rattle.stored_log.specs.Docs.{Doc}
-use Rattle.served_log.specs.Batches.{AreAdded}
-use Rattle.served_log.specs.Named.{is_known, replica_name}
-use Rattle.served_log.specs.Restored.{origin_at}
 use Rattle.served_log.specs.Stored.{ServesStored}
 use Rattle.served_log.specs.Totals.{ServesSessions}
 use Rattle.tcp_server.specs.Listening.{WritesAddress}
-use Rattle.commands.specs.Server.{MayFollow, ServesAt}
+use Rattle.commands.specs.Server.{MayFollow, ServesAt, ServesFrom}
 
 -- ---- connections by their bytes alone
 
@@ -71,28 +70,39 @@ length-mapped : {C B : Type 0} (f : C → B) (xs : List C) → length (map f xs)
 length-mapped f xs = length-map _ _
 
 module _ {L Left : Type 0} (g : Ghosts L Left) where
-  pub serves_at : {E C : Type 0} (bytes : C → Bytes) (follows : C → C → Type 0) (stays : Bool) (Is : C → Type 0) (step : (a b : C) → Is a → follows a b → (stays ≡ true) × Is b)
-      (name : List ℕ) (names : List (List ℕ)) (connections : List C) (count : ℕ) (old : L) (closed : Result ⊤ E) (last : Left) (out_before listens out_after : Option (List ℕ))
-      → All Is connections → length connections ≡ count → WritesAddress out_before listens → ServesStored g bytes follows name names connections old closed last listens out_after
-      → ServesAt name names count stays out_before out_after
-  serves_at bytes follows stays Is step name names connections count old closed last out_before listens out_after are many listening served =
-      let begun = g.log served.begun in
-      let named = served.raised.named in
-      let kept = served.raised.kept in
-      let same : (g.log served.served.folded).docs ≡ begun.docs = ap (λ (it : LogState). it.docs) served.served.same in record {
-        listens = listens;
-        listening = listening;
-        docs = begun.docs;
-        before = (g.log old).epoch;
-        epoch = begun.epoch;
-        raised = served.raised.raised;
-        unknown = subst (λ (docs : List Doc). is_known (replica_name name begun.epoch) docs names ≡ false) (sym kept) (subst (λ (r : List ℕ). is_known r (g.log old).docs names ≡ false) named served.raised.unknown);
-        last = (g.log served.served.new).docs;
-        any = served.served.copied.any;
-        copied = subst (λ (r : List ℕ). AreAdded (origin_at r begun.docs names) names begun.docs served.served.copied.any (g.log served.served.new).docs) named
-            (subst (λ (docs : List Doc). AreAdded (origin_at served.replica begun.docs names) names docs served.served.copied.any (g.log served.served.new).docs) same served.served.copied.added);
-        connections = map bytes connections;
-        so_many = length-mapped bytes connections ∙ many;
-        served = subst (λ (r : List ℕ). ServesSessions (λ b. b) (MayFollow stays) (origin_at r begun.docs names) (g.log served.served.new).docs names (map bytes connections) listens out_after) named
-            (sessions_bytes bytes follows stays Is step are served.served.sessions);
-      }
+  pub serves_from : {C : Type 0} (bytes : C → Bytes) (follows : C → C → Type 0) (stays : Bool) (Is : C → Type 0) (step : (a b : C) → Is a → follows a b → (stays ≡ true) × Is b)
+      (name : List ℕ) (names : List (List ℕ)) (connections : List C) (count : ℕ) (old : L) (closed : Result ⊤ StoredFault) (last : Left) (out_before listens out_after : Option (List ℕ))
+      → All Is connections → length connections ≡ count → WritesAddress out_before listens → OnErr closed ⊥ → ServesStored g bytes follows name names connections old closed last listens out_after
+      → ServesFrom g old name names count stays out_before out_after
+  serves_from bytes follows stays Is step name names connections count old (Ok done) last out_before listens out_after are many listening well s = record {
+    listens = listens;
+    listening = listening;
+    connections = map bytes connections;
+    so_many = length-mapped bytes connections ∙ many;
+    last = last;
+    served = record {
+      begun = s.begun;
+      replica = s.replica;
+      raised = s.raised;
+      same_tables = s.same_tables;
+      served = record {
+        folded = s.served.folded;
+        new = s.served.new;
+        same = s.served.same;
+        was_alone = s.served.was_alone;
+        sessions = sessions_bytes bytes follows stays Is step are s.served.sessions;
+        copied = s.served.copied;
+        alone = s.served.alone;
+        works = s.served.works;
+        is_in_file = s.served.is_in_file;
+      };
+    };
+  }
+  serves_from bytes follows stays Is step name names connections count old (Err why) last out_before listens out_after are many listening well s = absurd well
+
+  -- a server over what was opened
+  pub serves_opened : {F : Type 0} (finds : L → LogState → Type 0) (opened : Result L F) (name : List ℕ) (names : List (List ℕ)) (count : ℕ) (stays : Bool) (out_before out_after : Option (List ℕ))
+      → IfOk opened (λ it. finds it (g.log it)) → MatchResult opened (λ it. ServesFrom g it name names count stays out_before out_after) (λ _. ⊥)
+      → ServesAt g finds name names count stays out_before out_after
+  serves_opened finds (Ok it) name names count stays out_before out_after found served = record { opened = it; found = found; served = served }
+  serves_opened finds (Err why) name names count stays out_before out_after found served = absurd served

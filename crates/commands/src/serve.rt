@@ -1,8 +1,8 @@
 //! Serving over TCP, from a stored log.
-ghost use Rattle.std.specs.Prelude.{◌≡◌, ◌⊎◌, ◌≤◌, length, map, false, IfErr};
+ghost use Rattle.std.specs.Prelude.{◌≡◌, ◌⊎◌, ◌≤◌, length, map, false, IfErr, MatchResult};
 ghost use Rattle.locked_doc.specs.Numbers.{greatest_number};
 ghost use Rattle.command_line.specs.CommandLine.{AsksToServe, WantedServer, is_serve};
-ghost use Rattle.commands.specs.Server.{ServesAt};
+ghost use Rattle.commands.specs.Server.{ServesAt, ServesFrom};
 
 use crate::health::Inspection;
 use crate::host::ServerHost;
@@ -110,9 +110,9 @@ fn listen_and_serve<R: ServerHost, L: StoredLog, W: io::Write>(
 ) -> u8
     requires few { length asked.now.documents.items ≤ greatest_number }
     ensures status { result ≤ 1 }
-    ensures served { result ≡ 0
-        → ServesAt asked.now.name.now (map (λ s. s.now) asked.now.documents.items)
-        asked.now.terms.sessions asked.now.terms.stays (W.contents out.old) (W.contents out.new) }
+    ensures served { result ≡ 0 → MatchResult opened (λ it. ServesFrom L.StoredLog it
+        asked.now.name.now (map (λ s. s.now) asked.now.documents.items)
+        asked.now.terms.sessions asked.now.terms.stays (W.contents out.old) (W.contents out.new)) (λ _. ⊥) }
     ensures unwritten { IfErr opened (λ fault. (fault ≡ Fault.Refused) ⊎ (out.new ≡ out.old)) }
 {
     let alloc = *asked.documents.allocator();
@@ -184,11 +184,13 @@ pub fn parse_and_serve<R: ServerHost, O: OpenLog, W: io::Write>(
     ensures status { result ≤ 2 }
     ensures first_word { is_serve (map (λ s. s.now) args.now) ≡ false → result ≡ 2 }
 
-    // As many threads with sessions as the arguments say, over their documents: with `--sessions`
-    // each has one session at most. What was written is where the server listens, and then the totals of what these sessions did.
+    // As many threads with sessions as the arguments say, over their documents as some start found
+    // them: with `--sessions` each has one session at most. What was written is where the server
+    // listens, and then the totals of what these sessions did.
     ensures served { result ≡ 0 → (wanted : WantedServer)
         × AsksToServe (map (λ s. s.now) args.now) wanted
-        × ServesAt wanted.name wanted.documents wanted.terms.sessions wanted.terms.stays (W.contents out.old) (W.contents out.new) }
+        × ServesAt O.Opened.StoredLog O.finds wanted.name wanted.documents
+        wanted.terms.sessions wanted.terms.stays (W.contents out.old) (W.contents out.new) }
 
     // The arguments asked for a server, or nothing was written.
     ensures failed { result ≡ 1

@@ -85,6 +85,9 @@ module _ {S : Type 0} (g : Ghosts S) (alone_in : S → Trees → Type 0) (old : 
         let s = sound.serves works alone (omega (arith, f.quiet.clean)) in
         ((g.view last).committed, f.alone clean, subst (Holds (content epoch docs)) (sym (f.same clean ∙ ap (λ (d : Database). d.trees) s.committed)) s.holds)
 
+    pub still_held : (last : S) → HasFolded g alone_in old last → has_failed ≡ false → is_alone ≡ true → StoreHas g (content epoch docs) last
+    still_held last f works alone clean db may = sound.left works alone (omega (arith, f.quiet.clean)) db (f.quiet.outcomes db may)
+
     pub serves_again : (new : Held S) → Reopens g alone_in old new → (is_alone ≡ true → (shown g new).now.schema ≡ copy_schema)
         → has_failed ≡ false → is_alone ≡ true → HasCleanDisk (shown g new) → IsOpenWith (content epoch docs) (shown g new)
     serves_again new r schema works alone clean =

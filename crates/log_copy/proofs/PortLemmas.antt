@@ -1,17 +1,22 @@
 -- What `LogCopy` is to the port of the stored log.
 use Rattle.std.proofs.Common.{◌≡◌, ◌⊎◌, inl, inr, ◌↔◌, ◌+◌, ℕ, List, Bool, true, false, Option, Some, None, Result, Ok, Err, OnOk, refl, sym, ◌∙◌}
+use Rattle.std.specs.Coded.{Coded-set, coded_ℕ}
+use Rattle.std.proofs.Math.Logic.{∥∥₁_elim}
+use mathlib.Core.HLevel.{⊥_prop}
+use Rattle.sqlite_trees.specs.View.{IsClean}
 use Rattle.sqlite.specs.Tree.{Trees}
 use Rattle.sqlite.specs.Store.{Ghosts}
 use Rattle.sqlite.specs.Held.{state}
 use Rattle.sqlite.specs.State.{HasCleanDisk}
 use Rattle.op_core.specs.Op.{Op}
 use Rattle.stored_rows.specs.Content.{Holds}
+use Rattle.stored_rows.proofs.SortLemmas.{one_epoch}
 use Rattle.stored_log.specs.Docs.{add_batch}
 use Rattle.stored_log.specs.declared.fault.Fault.{Fault}
 use Rattle.stored_log.specs.declared.fault.Fault.TheVariants.{Store}
-use Rattle.stored_log.specs.Log.{HasSame, IsAddedOrNot, IsRaisedOrNot}
+use Rattle.stored_log.specs.Log.{HasSame, IsAddedOrNot, IsRaisedOrNot, LogState}
 use Rattle.log_copy.specs.Kept.{Kept, IsSoundCopy, content}
-use Rattle.log_copy.specs.Port.{CrashLeaves, copied_log}
+use Rattle.log_copy.specs.Port.{CrashLeaves, IsSure, copied_log}
 
 module _ {S : Type 0} (g : Ghosts S) where
   module _ (old new : Kept S) (alone : new.is_alone ≡ old.is_alone) where
@@ -28,6 +33,17 @@ module _ {S : Type 0} (g : Ghosts S) where
       | inl was ↦ record { epoch = old.epoch; docs = old.docs; is_such = record { same_epoch = refl; added_or_not = inl refl }; holds = was }
       | inr is ↦ record { epoch = old.epoch; docs = add_batch name ops old.docs; is_such = record { same_epoch = refl; added_or_not = inr refl }; holds = is }
     ]
+
+  pub leaves_some : (c : Kept S) → (IsClean (g.view c.conn.store) → ∥ ((db : Trees) × g.recovers c.conn.store db) ∥₁) → IsSure g c
+      → CrashLeaves g c (λ _ _. ⊥) → ⊥
+  leaves_some c some sure left = ∥∥₁_elim (some sure.1) ⊥_prop (λ found. (left sure.0 sure.1 found.0 found.1).is_such)
+
+  pub leaves_one : (c : Kept S) → (IsClean (g.view c.conn.store) → ∥ ((db : Trees) × g.recovers c.conn.store db) ∥₁) → (it other : LogState) → IsSure g c
+      → CrashLeaves g c (HasSame it) → CrashLeaves g c (HasSame other) → it.epoch ≡ other.epoch
+  leaves_one c some it other sure left also = ∥∥₁_elim (some sure.1) (Coded-set coded_ℕ _ _) (λ found.
+      let a = left sure.0 sure.1 found.0 found.1 in
+      let b = also sure.0 sure.1 found.0 found.1 in
+      sym a.is_such.same_epoch ∙ one_epoch (content a.epoch a.docs) (content b.epoch b.docs) found.0 a.holds b.holds ∙ b.is_such.same_epoch)
 
   works_if_ok : {T : Type 0} (has_failed : Bool) (x : T) → ((◌≡◌ {A = Result T Fault} (Ok x) (Err Store)) ↔ (has_failed ≡ true)) → has_failed ≡ false
   works_if_ok false x failed = refl

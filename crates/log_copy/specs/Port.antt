@@ -37,6 +37,10 @@ if_there (Some x) goes_on holds = goes_on x holds
 if_there None goes_on holds = holds
 
 module _ {S : Type 0} (g : Ghosts S) where
+  -- The database has only our tables, and the disk returned what was written.
+  abbrev pub IsSure : Kept S → Type 0
+  IsSure c = (c.is_alone ≡ true) × HasCleanDisk (state g c.conn)
+
   -- In a database with only our tables, whatever a crash leaves holds such an epoch and documents.
   abbrev pub CrashLeaves : Kept S → (ℕ → List Doc → Type 0) → Type 0
   CrashLeaves c such = c.is_alone ≡ true → HasCleanDisk (state g c.conn) → (db : Trees)
@@ -52,9 +56,10 @@ module _ {S : Type 0} (g : Ghosts S) where
     WasInFile old new = old.is_alone ≡ true → HasCleanDisk (state g new.conn)
         → WasAlone g holds_alone (content old.epoch old.docs) old.conn.store
 
-    -- The database file alone holds the epoch and the documents.
+    -- The database file alone holds the epoch and the documents, and a crash leaves them.
     abbrev pub IsInFile : Kept S → S → Type 0
-    IsInFile c last = c.is_alone ≡ true → FileHas g holds_alone (content c.epoch c.docs) last
+    IsInFile c last = c.is_alone ≡ true
+        → FileHas g holds_alone (content c.epoch c.docs) last × StoreHas g (content c.epoch c.docs) last
 
     -- It holds what was last committed, also beside other tables and after a fault.
     abbrev pub HasCommitted : Kept S → S → Type 0

@@ -57,11 +57,13 @@ pub fn append_there<S: Foldable + Drop>(
 impl<S: Foldable + Drop> StoredLog for LogCopy<S> {
     type Left = S;
 
-    ghost use Rattle.log_copy.specs.Port.{CrashLeaves, HasCommitted, IsInFile, IsInStore};
+    ghost use Rattle.log_copy.specs.Port.{CrashLeaves, HasCommitted, IsInFile, IsInStore, IsSure};
     ghost use Rattle.log_copy.specs.Port.{WasInFile};
     ghost use Rattle.log_copy.specs.Port.{copied_log, keeps_such};
 
     ghost log = { copied_log };
+
+    ghost is_sure = { IsSure S.Store };
 
     ghost survives = { CrashLeaves S.Store };
 
@@ -74,6 +76,8 @@ impl<S: Foldable + Drop> StoredLog for LogCopy<S> {
     ghost has_moved = { HasCommitted S.Store S.Foldable.holds_alone };
 
     ghost still_keeps = { λ it first last kept left alone clean db may. keeps_such first last kept db (left alone clean db may) };
+
+    ghost is_left = { λ it last both alone. (both alone).1 };
 
     fn cause(&self) -> Option<StoredFault> {
         LogCopy::cause(self)

@@ -1,14 +1,14 @@
 //! Stored logs in SQLite's files: opening one, by its path.
 //!
 //! No clause can say what a real file holds. So all that clauses say of a stored log is said of
-//! `LogCopy`, over any store.
+//! `LogCopy`, over any store; and a start finds what the tables of a connection held that was just
+//! opened.
 
-ghost use Rattle.std.specs.Prelude.{◌≡◌, ◌⊎◌, ◌↔◌, true, false, IfOk};
-ghost use Rattle.sqlite.specs.Held.{state};
-ghost use Rattle.sqlite.specs.State.{HasCleanDisk};
-ghost use Rattle.stored_rows.specs.Content.{Content, with_format};
-ghost use Rattle.stored_rows.specs.Steps.{IsOpenWith, IsOurs};
-ghost use Rattle.log_copy.specs.Opened.{IsTakenOver};
+ghost use Rattle.std.specs.Prelude.{◌≡◌, ◌⊎◌, ◌↔◌, false, IfOk};
+ghost use Rattle.sqlite.specs.Files.{over_files};
+ghost use Rattle.stored_log.specs.Log.{HasSame};
+ghost use Rattle.log_copy.specs.Port.{CrashLeaves, copied_log};
+ghost use Rattle.log_files.specs.Found.{IsFound, IsFoundIn};
 ghost use Rattle.log_files.specs.Refusal.{IsRefusal};
 
 use crate::causes::Cause;
@@ -30,13 +30,9 @@ use stored_log::{Fault, OpenLog, StoredFault};
 /// The stored log over a connection, or why there is none.
 pub fn adopted<S: Alter + Drop>(alloc: Global, conn: Connection<S>) -> Result<LogCopy<S>, Cause>
     ensures works { IfOk result (λ c. c.has_failed ≡ false) }
-    ensures alone { IfOk result (λ c. IsOurs (state S.Store conn) → c.is_alone ≡ true) }
     // It holds what the tables had, or has made them.
-    ensures kept { IfOk result (λ c. HasCleanDisk (state S.Store c.conn) → (was : Content)
-        → IsOpenWith was (state S.Store conn)
-        → IsOpenWith (with_format 2 was) (state S.Store c.conn)) }
-    ensures taken { IfOk result (λ c. HasCleanDisk (state S.Store c.conn)
-        → IsTakenOver S.Store conn c.conn c.epoch c.docs) }
+    ensures found { IfOk result (λ c. IsFoundIn S.Store conn c c.epoch c.docs) }
+    ensures stays { IfOk result (λ c. CrashLeaves S.Store c (HasSame (copied_log c))) }
 {
     match LogCopy::adopt(alloc, conn) {
         Ok(copy) => Ok(copy),
@@ -83,7 +79,9 @@ fn open_cause(rt: &HostRuntime, path: &str, error: Error) -> Cause
 
 // Opens the file, or creates it. A file that is no database, or a damaged one, is refused.
 fn open_file(rt: &HostRuntime, path: &str) -> Result<LogCopy<FileStore<File>>, Cause>
-    ensures { IfOk result (λ c. c.has_failed ≡ false) }
+    ensures works { IfOk result (λ c. c.has_failed ≡ false) }
+    ensures found { IfOk result (λ c. IsFound over_files c c.epoch c.docs) }
+    ensures stays { IfOk result (λ c. CrashLeaves over_files c (HasSame (copied_log c))) }
 {
     match Connection::open(rt, path) {
         Ok(conn) => adopted(rt.alloc(), conn),
@@ -98,7 +96,9 @@ fn open_looked_at(
     path: &str,
     before: &Before,
 ) -> Result<LogCopy<FileStore<File>>, Cause>
-    ensures { IfOk result (λ c. c.has_failed ≡ false) }
+    ensures works { IfOk result (λ c. c.has_failed ≡ false) }
+    ensures found { IfOk result (λ c. IsFound over_files c c.epoch c.docs) }
+    ensures stays { IfOk result (λ c. CrashLeaves over_files c (HasSame (copied_log c))) }
 {
     if let Some(cause) = why_alone(rt, path, before) {
         return Err(cause);
@@ -141,7 +141,9 @@ fn open_noted<R: Log + Clock>(
     notes: &R,
     path: &str,
 ) -> Result<LogCopy<FileStore<File>>, Fault>
-    ensures { IfOk result (λ c. c.has_failed ≡ false) }
+    ensures works { IfOk result (λ c. c.has_failed ≡ false) }
+    ensures found { IfOk result (λ c. IsFound over_files c c.epoch c.docs) }
+    ensures stays { IfOk result (λ c. CrashLeaves over_files c (HasSame (copied_log c))) }
 {
     let before = look_at(rt, path);
     match open_looked_at(rt, path, &before) {
@@ -189,6 +191,13 @@ impl<'a, R: Log + Clock> SqliteFiles<'a, R> {
 
 impl<R: Log + Clock> OpenLog for SqliteFiles<'_, R> {
     type Opened = SqliteLog;
+
+    ghost use Rattle.std.specs.Prelude.{MatchOption};
+    ghost use Rattle.sqlite.specs.Files.{over_files};
+    ghost use Rattle.log_files.specs.Found.{IsFound};
+
+    // A connection that was just opened showed it.
+    ghost finds = { λ it found. MatchOption it.log ⊥ (λ c. IsFound over_files c found.epoch found.docs) };
 
     /// Opens the file, or creates it, readable and writable by its owner alone, unless only files
     /// that are there are asked for. A note says so where it was created, and what became of a

@@ -245,6 +245,8 @@ impl StoredLog for SqliteLog {
     ghost log = { λ it. unwrap_or (option_map copied_log it.log)
         (unwrap_or (option_map (λ s. parts_log s.parts) it.shut) no_log) };
 
+    ghost is_sure = { λ it. MatchOption it.log ⊥ (λ c. ⟦<LogCopy<SqliteFile> as StoredLog>⟧.is_sure c) };
+
     ghost survives = { λ it such. MatchOption it.log ⊥ (λ c. ⟦<LogCopy<SqliteFile> as StoredLog>⟧.survives c such) };
 
     ghost was_alone = { λ old new. MatchOption old.log ⊥ (λ c. MatchOption new.log ⊥
@@ -263,6 +265,14 @@ impl StoredLog for SqliteLog {
         {P = λ c. ⟦<LogCopy<SqliteFile> as StoredLog>⟧.survives c (IsRaisedOrNot last)}
         {Q = λ c. ⟦<LogCopy<SqliteFile> as StoredLog>⟧.survives c (KeepsAll first)} it.log
         (λ c was alone clean db may. keeps_such first last kept db (was alone clean db may)) left };
+
+    ghost is_left = { λ it last both. if_there
+        {P = λ c. MatchOption last.file ⊥ (λ f. ⟦<LogCopy<SqliteFile> as StoredLog>⟧.is_in_file c f)}
+        {Q = λ c. MatchOption last.file ⊥ (λ f. ⟦<LogCopy<SqliteFile> as StoredLog>⟧.is_in_store c f)} it.log
+        (λ c is. if_there
+        {P = λ f. ⟦<LogCopy<SqliteFile> as StoredLog>⟧.is_in_file c f}
+        {Q = λ f. ⟦<LogCopy<SqliteFile> as StoredLog>⟧.is_in_store c f} last.file
+        (λ f has alone. (has alone).1) is) both };
 
     fn cause(&self) -> Option<StoredFault> {
         match (&self.log, &self.shut) {

@@ -6,3 +6,4 @@ mod Storing
 pub mod Adding
 mod Knowing
 mod Logged
+mod OwnNames

@@ -6,3 +6,4 @@ pub mod Stored
 pub mod Unwritten
 pub mod Batches
 pub mod Known
+pub mod Restarts

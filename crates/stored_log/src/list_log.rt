@@ -186,10 +186,13 @@ impl ListLog {
 impl StoredLog for ListLog {
     type Left = ListStore;
 
+    ghost use Rattle.std.specs.Prelude.{⊤};
     ghost use Rattle.stored_log.specs.Listed.{AreBoth, listed_log};
     ghost use Rattle.stored_log.specs.Log.{raised_keeps};
 
     ghost log = { listed_log };
+
+    ghost is_sure = { λ it. ⊤ };
 
     ghost survives = { λ it may. may it.kept.epoch it.kept.docs };
 
@@ -202,6 +205,8 @@ impl StoredLog for ListLog {
     ghost is_in_store = { λ it last. last.kept ≡ it.kept };
 
     ghost still_keeps = { λ it first last kept. raised_keeps first last kept it.kept.epoch it.kept.docs };
+
+    ghost is_left = { λ it last both. both.as_kept };
 
     fn cause(&self) -> Option<StoredFault> {
         self.failure

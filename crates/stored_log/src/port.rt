@@ -20,6 +20,9 @@ pub trait StoredLog: Drop {
 
     ghost log: { Self → LogState };
 
+    // The premise of all that is said of crashes, as that its disk returns what was written.
+    ghost is_sure: { Self → Type 0 };
+
     // Whatever a crash leaves of it now is such an epoch and such documents.
     ghost survives: { Self → (ℕ → List Doc → Type 0) → Type 0 };
 
@@ -43,7 +46,11 @@ pub trait StoredLog: Drop {
     /// The last epoch that was given out, 0 if none was.
     fn epoch(&self) -> Result<u64, Fault>
         ensures failed { (result ≡ Err Fault.Store) ↔ ((log self.now).has_failed ≡ true) }
-        ensures only { (result ≡ Err Fault.Store) ⊎ (result ≡ Ok (log self.now).epoch) };
+        ensures only { (result ≡ Err Fault.Store) ⊎ (result ≡ Ok (log self.now).epoch) }
+        // Laws of crashes: one leaves something, and what it leaves has one epoch.
+        ensures some { is_sure self.now → survives self.now (λ _ _. ⊥) → ⊥ }
+        ensures one { (it other : LogState) → is_sure self.now → survives self.now (HasSame it)
+            → survives self.now (HasSame other) → it.epoch ≡ other.epoch };
 
     /// Stores and answers one more than the stored epoch. It is refused from 9,999,999 on.
     fn epoch_up(&mut self) -> Result<u64, Fault>
@@ -142,4 +149,7 @@ pub trait StoredLog: Drop {
     // What a crash leaves behind a new epoch keeps what was kept before it.
     ghost still_keeps: { (it : Self) (first last : LogState) → KeepsAll first last.epoch last.docs
         → survives it (IsRaisedOrNot last) → survives it (KeepsAll first) };
+
+    // What the file alone holds a crash leaves.
+    ghost is_left: { (it : Self) (last : Self.Left) → is_in_file it last → is_in_store it last };
 }

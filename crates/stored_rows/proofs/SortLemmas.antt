@@ -1,10 +1,10 @@
 -- The rows of a sound copy in the order in which they are read.
-use Rattle.std.proofs.Common.{◌≡◌, ◌+◌, ◌<◌, ℕ, ℤ, pos, true, false, List, [], ◌∷◌, map, codes, Contains, refl, subst, arith, Less, IsPermutation, IsSorted}
+use Rattle.std.proofs.Common.{◌≡◌, ◌+◌, ◌<◌, ℕ, zero, suc, ℤ, pos, true, false, List, [], ◌∷◌, map, codes, Contains, refl, subst, sym, arith, Less, IsPermutation, IsSorted}
 use Rattle.std.specs.List.{AllByRecursion}
 use Rattle.std.specs.Ordering.{int_cmp}
 use Rattle.std.proofs.lemmas.Bool.Decides.{nat_tests}
 use Rattle.std.proofs.lemmas.Cmp.{tied_itself}
-use Rattle.std.proofs.lemmas.List.Sorted.{IsPermutation-trans}
+use Rattle.std.proofs.lemmas.List.Sorted.{IsPermutation-sym, IsPermutation-trans}
 use Rattle.sqlite.specs.Order.{Row}
 use Rattle.sqlite.specs.Tree.{Trees}
 use Rattle.sqlite.specs.declared.types.Value.TheVariants.{Text}
@@ -89,3 +89,17 @@ module _ (what : Content) (trees : Trees) (holds : Holds what trees) where
 -- the same row has the same number
 pub one_number : (id other : ℤ) (name : List ℕ) (value at_other : ℕ) {more rest : List Row} → meta_row id name value ∷ more ≡ meta_row other name at_other ∷ rest → value ≡ at_other
 one_number id other name value at_other e = cc
+
+second_number : (f e : Row) (id other : ℤ) (name : List ℕ) (value at_other : ℕ) → f ∷ meta_row id name value ∷ [] ≡ e ∷ meta_row other name at_other ∷ [] → value ≡ at_other
+second_number f e id other name value at_other same = cc
+
+-- tables have one epoch
+pub one_epoch : (what other : Content) (db : Trees) → Holds what db → Holds other db → what.epoch ≡ other.epoch
+one_epoch what other db h o =
+    let rows : List Row = meta_row o.meta.id (codes "format") other.format ∷ meta_row o.meta.other_id (codes "epoch") other.epoch ∷ [] in
+    second_number _ _ h.meta.other_id o.meta.other_id (codes "epoch") what.epoch other.epoch
+    (sym (numbers_are what db h rows (IsPermutation-sym _ _ o.meta.rows_are) (falls o.meta.id o.meta.other_id other.format other.epoch)))
+  where
+    falls : (id other_id : ℤ) (format epoch : ℕ) → IsSorted meta_cmp (meta_row id (codes "format") format ∷ meta_row other_id (codes "epoch") epoch ∷ [])
+    falls id other_id format epoch zero d low high = rw (value_cmp-Text (codes "format") (codes "epoch")) refl
+    falls id other_id format epoch (suc k) d low high = absurd (omega arith)

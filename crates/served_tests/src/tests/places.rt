@@ -32,6 +32,11 @@ pub struct NewLists {
 impl OpenLog for NewLists {
     type Opened = ListLog;
 
+    ghost use Rattle.std.specs.Prelude.{◌≡◌, [], true, false};
+
+    // An empty log.
+    ghost finds = { λ it found. found ≡ record { epoch = 0; docs = []; is_alone = true; has_failed = false } };
+
     fn open(&self, _name: &str) -> Result<ListLog, Fault> {
         match self.fault {
             Some(fault) => Err(fault),
