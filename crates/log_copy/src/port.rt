@@ -8,7 +8,7 @@ use crate::copy::LogCopy;
 use crate::fold::Foldable;
 use op_core::Operation;
 use op_log::OpLog;
-use sqlite::ErrorCode;
+use sqlite::{Alter, ErrorCode};
 use std::alloc::Global;
 use stored_log::{Fault, StoredDoc, StoredFault, StoredLog};
 
@@ -27,7 +27,7 @@ pub fn stored_fault_of(code: ErrorCode) -> StoredFault {
 
 /// As `append`, where the file that the database is in is still at its path. Otherwise the log
 /// fails, and is as it was.
-pub fn append_there<S: Foldable + Drop>(
+pub fn append_there<S: Alter + Drop>(
     copy: &mut LogCopy<S>,
     is_there: bool,
     doc: &str,

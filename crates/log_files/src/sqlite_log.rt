@@ -1,22 +1,26 @@
 //! The stored log of a SQLite file, as a type without parameters:
 //! `main` picks it in a few steps then.
+//!
+//! A call at the file's store is dear to prove, and twice as dear where the callee asks for
+//! `Foldable`. So `LogCopy`'s own methods are called, which ask for less, and what makes several
+//! calls is over any store.
 ghost use Rattle.std.specs.Prelude.{◌≡◌, IfOk, IfErr, IfSome, MatchOption, Some, None, true, false};
 ghost use Rattle.std.specs.Prelude.{option_map, unwrap_or};
 ghost use Rattle.stored_log.specs.Log.{HasBatchAgain, HasSame};
 ghost use Rattle.log_copy.specs.Again.{no_log, parts_log};
 ghost use Rattle.log_copy.specs.Kept.{IsStorable};
-ghost use Rattle.log_copy.specs.Port.{copied_log};
+ghost use Rattle.log_copy.specs.Port.{CrashLeaves, copied_log};
 
 use crate::files::SqliteFile;
 use crate::place::Place;
 use log_copy::{Failed, LogCopy, Parts, append_there, resumed, stored_fault_of};
 use op_core::Operation;
 use op_log::OpLog;
-use sqlite::{Connection, Error, ErrorCode, File, Files, Options};
+use sqlite::{Alter, Connection, Error, ErrorCode, File, Files, Options};
 use std::alloc::Global;
 use std::hash::{BuildHasher, RandomState};
 use std::mem;
-use stored_log::{Fault, StoredDoc, StoredFault, StoredLog};
+use stored_log::{Fault, StoredDoc, StoredFault, StoredLog, count, log_clone};
 
 /// What a stored log had whose files can't be used now, and the files, which stay locked. They are
 /// missing where a sync failed: then they are opened anew by their path.
@@ -65,15 +69,23 @@ fn fault_of(error: &Error) -> StoredFault {
     }
 }
 
+// What a log had, why it failed, and its store.
+fn taken_apart<S: Alter + Drop>(log: LogCopy<S>) -> (Parts, StoredFault, S)
+    ensures { parts_log result.0 ≡ record (copied_log log) { has_failed = true } }
+{
+    let cause = log.cause().unwrap_or(StoredFault::Other);
+    let (conn, parts) = log.into_parts();
+    (parts, cause, conn.into_store())
+}
+
 // What a log had, with its files.
 fn shut_down(log: LogCopy<SqliteFile>) -> ShutLog
     ensures { parts_log result.parts ≡ record (copied_log log) { has_failed = true } }
 {
-    let cause = StoredLog::cause(&log).unwrap_or(StoredFault::Other);
-    let (conn, parts) = log.into_parts();
+    let (parts, cause, store) = taken_apart(log);
     ShutLog {
         parts,
-        files: Some(conn.into_store().close()),
+        files: Some(store.close()),
         cause,
     }
 }
@@ -140,6 +152,24 @@ fn cause_again(fault: Fault, cause: Option<StoredFault>) -> StoredFault {
     }
 }
 
+// The log over this connection, or why there is none, and the store.
+fn resumed_over<S: Alter + Drop>(
+    alloc: Global,
+    conn: Connection<S>,
+    kept: &Parts,
+    failed: &Failed<'_>,
+) -> Result<LogCopy<S>, (Fault, StoredFault, S)>
+    ensures again { IfOk result (λ c. HasBatchAgain failed.now.doc.now failed.now.from failed.now.entries.now
+        (parts_log kept.now) (copied_log c)) }
+    ensures alone { IfOk result (λ c. c.is_alone ≡ kept.now.is_alone) }
+    ensures stays { IfOk result (λ c. CrashLeaves S.Store c (HasSame (copied_log c))) }
+{
+    match resumed(alloc, conn, kept, failed) {
+        Ok(log) => Ok(log),
+        Err((fault, why, conn)) => Err((fault, cause_again(fault, why), conn.into_store())),
+    }
+}
+
 // Opens the files again.
 fn opened_again(
     place: &Place,
@@ -179,11 +209,10 @@ fn opened_again(
             },
         )),
     };
-    match resumed(place.rt().alloc(), conn, &parts, failed) {
+    match resumed_over(place.rt().alloc(), conn, &parts, failed) {
         Ok(log) => Ok(log),
-        Err((fault, why, conn)) => {
-            let files = Some(conn.into_store().close());
-            let cause = cause_again(fault, why);
+        Err((fault, cause, store)) => {
+            let files = Some(store.close());
             Err((
                 fault,
                 ShutLog {
@@ -276,7 +305,7 @@ impl StoredLog for SqliteLog {
 
     fn cause(&self) -> Option<StoredFault> {
         match (&self.log, &self.shut) {
-            (Some(log), _) => StoredLog::cause(log),
+            (Some(log), _) => log.cause(),
             (None, Some(shut)) => Some(shut.cause),
             (None, None) => None,
         }
@@ -284,7 +313,7 @@ impl StoredLog for SqliteLog {
 
     fn epoch(&self) -> Result<u64, Fault> {
         match &self.log {
-            Some(log) => StoredLog::epoch(log),
+            Some(log) => log.epoch(),
             None => Err(Fault::Store),
         }
     }
@@ -298,7 +327,7 @@ impl StoredLog for SqliteLog {
 
     fn docs(&self) -> Result<&[StoredDoc], Fault> {
         match &self.log {
-            Some(log) => StoredLog::docs(log),
+            Some(log) => log.docs(),
             None => {
                 keeps_storable(&self.shut);
                 Err(Fault::Store)
@@ -307,17 +336,13 @@ impl StoredLog for SqliteLog {
     }
 
     fn rows(&self, doc: &str) -> Result<usize, Fault> {
-        match &self.log {
-            Some(log) => StoredLog::rows(log, doc),
-            None => Err(Fault::Store),
-        }
+        let docs = StoredLog::docs(self)?;
+        Ok(count(docs, doc))
     }
 
     fn load(&self, alloc: Global, doc: &str) -> Result<OpLog, Fault> {
-        match &self.log {
-            Some(log) => StoredLog::load(log, alloc, doc),
-            None => Err(Fault::Store),
-        }
+        let docs = StoredLog::docs(self)?;
+        log_clone(docs, alloc, doc)
     }
 
     /// Before each batch it looks once whether the file is still at its path, under no other name.

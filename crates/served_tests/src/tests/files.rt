@@ -1,8 +1,9 @@
-//! Stored logs in two files, the log of commits and the database itself. This is over any disks:
-//! each call that names a store in files is dear to prove, and at disks of one kind twice as dear.
+//! Stored logs in two files, the log of commits and the database itself. A call that names a store
+//! in files is dear to prove, and at disks of one kind three times as dear. So one function names
+//! it, over any disks.
 use super::deeds::{Case, Deed, all_done};
 use super::disks::connected;
-use super::places::adopted;
+use super::places::{Restarts, adopted};
 use log::Log;
 use sqlite::{Connection, Error, FileStore};
 use sqlite_disk::{Crash, Disk, Files};
@@ -12,6 +13,27 @@ use std::sync::Wait;
 use std::thread::Threads;
 use std::time::Clock;
 
+// Does all of it with the log in the database, and gives back its store.
+fn done_with<R: Threads + Wait + Abort + Sync + Log + Clock, S: Restarts + Drop>(
+    rt: &R,
+    alloc: Global,
+    case: &Case<'_>,
+    conn: Connection<S>,
+) -> Result<S, AllocError> {
+    all_done(rt, alloc, case, adopted(alloc, conn)?)
+}
+
+// The same over two files, which are then left as they are.
+fn done_between<R: Threads + Wait + Abort + Sync + Log + Clock, D: Disk + Drop>(
+    rt: &R,
+    alloc: Global,
+    case: &Case<'_>,
+    conn: Connection<FileStore<D>>,
+) -> Result<Files<D>, AllocError> {
+    let store = done_with(rt, alloc, case, conn)?;
+    Ok(store.close())
+}
+
 /// Does all of it with the log in the files, and then leaves them as they are.
 pub fn done_in_files<R: Threads + Wait + Abort + Sync + Log + Clock, D: Disk + Drop>(
     rt: &R,
@@ -19,11 +41,10 @@ pub fn done_in_files<R: Threads + Wait + Abort + Sync + Log + Clock, D: Disk + D
     case: &Case<'_>,
     files: Files<D>,
 ) -> Result<Files<D>, AllocError> {
-    let Ok(conn) = connected(alloc, files) else {
-        return Err(AllocError);
-    };
-    let store = all_done(rt, alloc, case, adopted(alloc, conn)?)?;
-    Ok(store.close())
+    match connected(alloc, files) {
+        Ok(conn) => done_between(rt, alloc, case, conn),
+        Err(_) => Err(AllocError),
+    }
 }
 
 /// Does all of it with a log in the files, and then these deeds with what the files hold when the
@@ -57,6 +78,6 @@ pub fn done_over<R: Threads + Wait + Abort + Sync + Log + Clock, D: Disk + Drop>
     let Ok(conn) = opened else {
         return Err(AllocError);
     };
-    let _store = all_done(rt, alloc, case, adopted(alloc, conn)?)?;
+    let _files = done_between(rt, alloc, case, conn)?;
     Ok(())
 }

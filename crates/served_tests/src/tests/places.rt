@@ -1,16 +1,16 @@
 //! Places where a log is stored. Each start opens one, and leaves it.
 use super::disks::connected;
-use log_copy::LogCopy;
-use sqlite::{Connection, FileStore};
+use log_copy::{Foldable, LogCopy};
+use sqlite::{Alter, Connection, FileStore};
 use sqlite_disk::Disk;
 use std::alloc::{AllocError, Global};
 use stored_log::{Fault, ListLog, ListStore, OpenLog, StoredFault, StoredLog};
 
 /// The stored log over this connection, or, as if out of memory, none.
-pub fn adopted<D: Disk + Drop>(
+pub fn adopted<S: Alter + Drop>(
     alloc: Global,
-    conn: Connection<FileStore<D>>,
-) -> Result<LogCopy<FileStore<D>>, AllocError> {
+    conn: Connection<S>,
+) -> Result<LogCopy<S>, AllocError> {
     match LogCopy::adopt(alloc, conn) {
         Ok(copy) => Ok(copy),
         Err(_) => Err(AllocError),
@@ -57,12 +57,25 @@ impl Reopens for ListLog {
     }
 }
 
-impl<D: Disk + Drop> Reopens for LogCopy<FileStore<D>> {
-    fn reopen(alloc: Global, left: FileStore<D>) -> Result<LogCopy<FileStore<D>>, AllocError> {
+/// A store that can be opened again. A log over any of these can be, so that the logs in files
+/// need no proof of their own.
+pub trait Restarts: Foldable {
+    /// The database of the store. If it can't be had, as if out of memory, none.
+    fn restart(alloc: Global, left: Self) -> Result<Connection<Self>, AllocError>;
+}
+
+impl<D: Disk + Drop> Restarts for FileStore<D> {
+    fn restart(alloc: Global, left: FileStore<D>) -> Result<Connection<FileStore<D>>, AllocError> {
         match connected(alloc, left.close()) {
-            Ok(conn) => adopted(alloc, conn),
+            Ok(conn) => Ok(conn),
             Err(_) => Err(AllocError),
         }
+    }
+}
+
+impl<S: Restarts + Drop> Reopens for LogCopy<S> {
+    fn reopen(alloc: Global, left: S) -> Result<LogCopy<S>, AllocError> {
+        adopted(alloc, S::restart(alloc, left)?)
     }
 }
 

@@ -1,6 +1,8 @@
 //! What is said of a database that is refused.
+use super::super::disks::{connected, new_files};
 use log_files::adopted;
 use sqlite::{Alter, Connection};
+use sqlite_disk::{Disk, Files};
 use std::alloc::{AllocError, Global};
 
 const COPY: &str =
@@ -9,21 +11,32 @@ const COPY: &str =
     INSERT INTO meta (name, value) VALUES ('format', 2), ('epoch', 0);
     INSERT INTO entry (doc, place, text) VALUES ('d', 1, '["op",[1,"p"],[],[[["m",0]],"k"],["assign",1]]')"#;
 
-// What is said of the database of a connection.
-fn said_of<S: Alter + Drop>(alloc: Global, conn: Connection<S>) -> Result<String, AllocError> {
+// What is said of the database of a connection, once it is a stored log with one entry of `d`,
+// changed so.
+fn said_of<S: Alter + Drop>(
+    alloc: Global,
+    mut conn: Connection<S>,
+    change: &str,
+) -> Result<String, AllocError> {
+    if conn.execute_batch(COPY).is_err() || conn.execute_batch(change).is_err() {
+        return Err(AllocError);
+    }
     match adopted(alloc, conn) {
         Ok(_) => format!(in alloc; "nothing"),
         Err(cause) => format!(in alloc; "{cause}"),
     }
 }
 
-// What is said of a stored log with one entry of `d`, changed so.
-fn said_after(alloc: Global, change: &str) -> Result<String, AllocError> {
-    let mut conn = Connection::open_in_memory(alloc)?;
-    if conn.execute_batch(COPY).is_err() || conn.execute_batch(change).is_err() {
-        return Err(AllocError);
+// The same of the database in these files. This names a store in files, which is dear to prove.
+fn said_in<D: Disk + Drop>(
+    alloc: Global,
+    files: Files<D>,
+    change: &str,
+) -> Result<String, AllocError> {
+    match connected(alloc, files) {
+        Ok(conn) => said_of(alloc, conn, change),
+        Err(_) => Err(AllocError),
     }
-    said_of(alloc, conn)
 }
 
 // Changes, and what is then said.
@@ -77,7 +90,8 @@ static SAID: [(&str, &str); 12] = [
 ];
 
 fn is_said(alloc: Global, change: &str, due: &str) -> Result<bool, AllocError> {
-    Ok(said_after(alloc, change)?.as_str() == due)
+    let files = new_files(alloc, u64::MAX, u64::MAX);
+    Ok(said_in(alloc, files, change)?.as_str() == due)
 }
 
 #[test]

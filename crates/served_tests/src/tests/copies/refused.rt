@@ -34,6 +34,7 @@ fn answer_after(alloc: Global, change: &str) -> Result<StepAnswer, AllocError> {
         &[
             (Step::Run(COPY), StepAnswer::Done),
             (Step::Run(change), StepAnswer::Done),
+            (Step::Fold, StepAnswer::Done),
         ],
     ) {
         Some(files) => answer_unchanged(alloc, files),
@@ -192,6 +193,7 @@ fn transaction_under_way(rt: HostRuntime) -> Result<(), Fail> {
     let begun = [
         (Step::Run("BEGIN"), StepAnswer::Done),
         (Step::Open, REFUSED),
+        (Step::Fold, StepAnswer::Done),
     ];
     assert!(rt; made(rt.alloc(), &begun).is_some());
     Ok(())

@@ -6,7 +6,7 @@ use log_copy::{Fault, Foldable, LogCopy};
 use sqlite::{Alter, Connection};
 use sqlite_disk::{Disk, Files};
 use std::alloc::{AllocError, Global};
-use stored_log::{CheckFailure, StoredFault, check_opened};
+use stored_log::{CheckFailure, ListLog, StoredFault, check_opened};
 
 // What a check answers.
 type Answer = Result<(), CheckFailure>;
@@ -38,18 +38,38 @@ fn opened<S: Alter + Drop>(
     }
 }
 
-// The reports of a stored log in these files.
+// The reports of a stored log over a connection.
+fn reported_over<S: Foldable + Drop>(
+    alloc: Global,
+    conn: Connection<S>,
+    sql: &str,
+    after: usize,
+) -> Result<(Answer, Vec<u8>), AllocError> {
+    let found = opened(alloc, conn, sql)?;
+    Ok(reported(alloc, found, after))
+}
+
+// Those of one in these files. This names a store in files, which is dear to prove.
 fn reported_in<D: Disk + Drop>(
     alloc: Global,
     files: Files<D>,
     sql: &str,
     after: usize,
 ) -> Result<(Answer, Vec<u8>), AllocError> {
-    let Ok(conn) = connected(alloc, files) else {
-        return Err(AllocError);
-    };
-    let found = opened(alloc, conn, sql)?;
-    Ok(reported(alloc, found, after))
+    match connected(alloc, files) {
+        Ok(conn) => reported_over(alloc, conn, sql, after),
+        Err(_) => Err(AllocError),
+    }
+}
+
+// Those of one in new files, whose database file stops after so many calls.
+fn reported_of_new(
+    alloc: Global,
+    calls: u64,
+    sql: &str,
+    after: usize,
+) -> Result<(Answer, Vec<u8>), AllocError> {
+    reported_in(alloc, new_files(alloc, u64::MAX, calls), sql, after)
 }
 
 // Whether this is answered and this text reported of a stored log in memory after these statements,
@@ -61,8 +81,7 @@ fn is_answered(
     due: Answer,
     text: &[u8],
 ) -> Result<bool, AllocError> {
-    let files = new_files(alloc, u64::MAX, u64::MAX);
-    let (answer, out) = reported_in(alloc, files, sql, after)?;
+    let (answer, out) = reported_of_new(alloc, u64::MAX, sql, after)?;
     Ok(answer == due && *out.as_slice() == *text)
 }
 
@@ -105,8 +124,7 @@ fn reports(rt: HostRuntime) {
 // What is answered of a stored log whose database file stops after so many calls,
 // and how many bytes are reported.
 fn reported_of_a_stop(alloc: Global, calls: u64) -> Option<(Answer, usize)> {
-    let files = new_files(alloc, u64::MAX, calls);
-    match reported_in(alloc, files, "", usize::MAX) {
+    match reported_of_new(alloc, calls, "", usize::MAX) {
         Ok((answer, out)) => Some((answer, out.len())),
         Err(_) => None,
     }
@@ -131,24 +149,16 @@ fn a_fault_of_closing(rt: HostRuntime) {
     }
 }
 
-// Whether nothing is reported where a stored log could not be opened in the files,
-// for another cause than a refusal.
-fn is_silent<S: Foldable + Drop>(alloc: Global, conn: Connection<S>) -> bool {
-    drop(conn);
-    let none: Result<LogCopy<S>, Fault> = Err(Fault::Store);
-    let (answer, out) = reported(alloc, none, usize::MAX);
+// Whether nothing is reported where a stored log could not be opened, for another cause than a
+// refusal.
+fn is_silent(alloc: Global) -> bool {
+    let none: Result<ListLog, Fault> = Err(Fault::Store);
+    let mut out = Vec::<u8>::new(alloc);
+    let answer = check_opened(alloc, none, &mut Writer::new(&mut out));
     answer == Err(CheckFailure::Unopened) && out.is_empty()
-}
-
-fn is_silent_in<D: Disk + Drop>(alloc: Global, files: Files<D>) -> bool {
-    match connected(alloc, files) {
-        Ok(conn) => is_silent(alloc, conn),
-        Err(_) => false,
-    }
 }
 
 #[test]
 fn another_fault(rt: HostRuntime) {
-    let files = new_files(rt.alloc(), u64::MAX, u64::MAX);
-    assert!(rt; is_silent_in(rt.alloc(), files));
+    assert!(rt; is_silent(rt.alloc()));
 }

@@ -34,7 +34,8 @@ pub enum Step<'a> {
     Restore(&'a str, usize, usize),
     /// A new epoch is started, greater than this.
     UpFrom(u64),
-    /// The log of the commits is copied into the database file, and the stored log goes on.
+    /// The log of the commits is copied into the database file. A stored log goes on, and tables
+    /// that are none are closed.
     Fold,
     /// The log of the commits is copied into the database file, and the stored log is closed.
     Close,
@@ -226,6 +227,15 @@ fn ask<S: Alter>(conn: &mut Connection<S>, sql: &str) -> StepAnswer {
     }
 }
 
+fn fold_tables<S: Foldable + Drop>(conn: Connection<S>) -> (Held<S>, StepAnswer) {
+    let mut store = conn.into_store();
+    let answer = match store.fold() {
+        Ok(()) => StepAnswer::Done,
+        Err(_) => StepAnswer::Fault(Fault::Store),
+    };
+    (Held::Closed(store), answer)
+}
+
 // ---- steps
 
 fn asked<S: Foldable + Drop>(
@@ -254,13 +264,14 @@ fn asked<S: Foldable + Drop>(
     }
 }
 
-fn over_tables<S: Alter + Drop>(
+fn over_tables<S: Foldable + Drop>(
     alloc: Global,
     mut conn: Connection<S>,
     step: Step<'_>,
 ) -> (Held<S>, StepAnswer) {
     let answer = match step {
         Step::Open => return adopt(alloc, conn),
+        Step::Fold => return fold_tables(conn),
         Step::Run(sql) => run(&mut conn, sql),
         Step::Ask(sql) => ask(&mut conn, sql),
         _ => StepAnswer::NoCopy,
