@@ -33,9 +33,10 @@ same_epoch r s same =
 others_differ : (r : Run) (epoch : ℕ) → r.begun.epoch ≤ epoch → (later : List Run) → FollowFrom epoch later
     → AllByRecursion (λ (s : Run). s.replica ≢ r.replica) later
 others_differ r epoch no_less [] follow = tt
-others_differ r epoch no_less (s ∷ later) follow =
-    (λ same. omega (arith, no_less, follow.0, s.raised.raised, same_epoch r s same),
-    others_differ r s.begun.epoch (omega (arith, no_less, follow.0, s.raised.raised)) later follow.1)
+others_differ r epoch no_less (s ∷ later) follow = (
+  λ same. omega (arith, no_less, follow.0, s.raised.raised, same_epoch r s same),
+  others_differ r s.begun.epoch (omega (arith, no_less, follow.0, s.raised.raised)) later follow.1,
+)
 
 pub own_names : (epoch : ℕ) (runs : List Run) → FollowFrom epoch runs → HaveOwnNames runs
 own_names epoch [] follow = tt
