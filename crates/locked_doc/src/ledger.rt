@@ -138,7 +138,8 @@ impl<M: Marker> Ledger<M> {
         requires begun { operations.now ≡ (M.origin self.old).log }
         requires named { MayBeNamed (M.origin self.old) name.now }
         ensures made { IfOk result (λ doc. (doc.number ≡ self.old)
-            × (doc.document ≡ new_document name.now operations.now seats) × (doc.followed ≡ false)) }
+            × (doc.document ≡ new_document name.now operations.now seats)
+            × (doc.followed ≡ false)) }
         ensures good { OnOk result (IsGood operations.now) }
         ensures err { IfErr result (λ cause. (cause ≡ Refusal.NoMemory)
             ⊎ ((place : ℕ) × IsFirstMisfit operations.now place cause)) }
@@ -164,7 +165,8 @@ impl<M: Marker> Ledger<M> {
         requires begun { log.operations ≡ (M.origin self.old).log }
         requires named { MayBeNamed (M.origin self.old) name.now }
         ensures made { IfOk result (λ doc. (doc.number ≡ self.old)
-            × (doc.document ≡ new_document name.now log.operations seats) × (doc.followed ≡ false)) }
+            × (doc.document ≡ new_document name.now log.operations seats)
+            × (doc.followed ≡ false)) }
         ensures memory { IfErr result (λ cause. cause ≡ Refusal.NoMemory) }
         ensures next { IfOk result (λ doc. self.new ≡ self.old + 1) }
         ensures room { greatest_number - self.old ≤ (greatest_number - self.new) + 1 }

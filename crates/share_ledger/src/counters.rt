@@ -208,7 +208,7 @@ impl<M: Marker> Book<M> {
     }
 
     /// Adds the ids of operations to both halves of one counter, and how many they are to both
-    /// counts. It ensures that the halves were equal before. The ids take no work at run time.
+    /// counts. It ensures that the halves were equal before. At run time only the counts change.
     pub fn follow(&mut self, share: &mut Share<M>, operations: &[Operation])
         requires counter { AreOfOneCounter self.old share.old }
         requires fits { self.old.count + length operations.now < 2 ^ 64 }

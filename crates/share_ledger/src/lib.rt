@@ -4,7 +4,8 @@
 //! `Book` is the authoritative half of a counter, which its document keeps; `Share` is the
 //! session's half, which a seat keeps. Only `Book::credit`, `Book::acknowledge` and `Book::follow`
 //! change them, both at once. So they agree on a count and on a list of ids, which takes no bytes,
-//! whatever other seats do in between. A `Blank` is a new table of counters before a marker names it.
+//! whatever other seats do in between. A `Blank` is a new table of counters before a marker names
+//! it.
 //!
 //! Proved by hand are the tokens of `halves`: seven empty functions over one ghost name, and three
 //! `unsafe impl`, each with a proof of its own (`Send` for both tokens, `Sync` for a half). All
