@@ -124,13 +124,13 @@ def test_a_run_is_cut_where_its_answer_would_be_too_long() -> None:
 
 
 def test_a_run_of_several_requests_is_refused_as_a_whole(ada: Replica) -> None:
-    ada.put([0, "l"], ["x" * 4096] * 40)
+    ada.put([0, "l"], ["x" * 4096] * 40 + ["x"] * 1000)
     lines = ada.lines()
     refused: List[Tuple[int, Callable[[], Any]]] = [
         (9, lambda: ada.delete_all([0, "l", 1], 2000)), (18, lambda: ada.delete_all([0, "l", 2], 2**63)),
         (10, lambda: ada.delete_all([0, "l", 0], 10)), (2, lambda: ada.delete_all([0, "l", 1], -1)),
         (6, lambda: ada.insert_all([0, "l", 1], ["x" * 4096] * 40 + ["x" * 4097])),
-        (9, lambda: ada.insert_all([0, "l", 41], ["x" * 4096] * 40)), (11, lambda: ada.insert_all([0, "l"], ["x" * 4096] * 40)),
+        (9, lambda: ada.insert_all([0, "l", 1041], ["x" * 4096] * 40)), (11, lambda: ada.insert_all([0, "l"], ["x" * 4096] * 40)),
     ]
     for number, change in refused:
         with pytest.raises(Refused) as raised:
