@@ -113,6 +113,17 @@ static void after_fork(void) {
   jcrdt_close(&replica);
 }
 
+/* What a new replica answers: requests, and the text that is due to each; NULL where any is right. */
+static void answers(const char *const asked[][2], size_t count) {
+  jcrdt replica = JCRDT_CLOSED;
+  jcrdt_fault fault;
+  jcrdt_open(&replica, "ada", 3, "", 0, &fault);
+  for (size_t at = 0; at < count; at++) {
+    if (!ask(&replica, asked[at][0], text) || (asked[at][1] && strcmp(text, asked[at][1]) != 0)) stop(asked[at][0], text);
+  }
+  jcrdt_close(&replica);
+}
+
 /* How many present elements come up to one: of three the second is deleted. Then what has no index. */
 static void indices(void) {
   static const char *const asked[][2] = {
@@ -125,13 +136,7 @@ static void indices(void) {
     {AT("[9,\"ada\"]"), "[\"no\",7,\"bad-cursor\"]\n"}, {"[\"index\",[0,\"l\",3]]", "[\"no\",9,\"index-past-end\"]\n"},
     {"[\"index\",[\"l\"]]", "[\"no\",2,\"bad-request\"]\n"}, {"[\"index\"]", "[\"no\",2,\"bad-request\"]\n"},
   };
-  jcrdt replica = JCRDT_CLOSED;
-  jcrdt_fault fault;
-  jcrdt_open(&replica, "ada", 3, "", 0, &fault);
-  for (size_t at = 0; at < sizeof asked / sizeof *asked; at++) {
-    if (!ask(&replica, asked[at][0], text) || (asked[at][1] && strcmp(text, asked[at][1]) != 0)) stop(asked[at][0], text);
-  }
-  jcrdt_close(&replica);
+  answers(asked, sizeof asked / sizeof *asked);
 }
 
 /* Runs: values one behind the other, elements at one index, and refusals with nothing changed. Behind the reply is the line of each
@@ -169,13 +174,7 @@ static void runs(void) {
     {"[\"front\"]", "[\"front\",[[\"ada\",7]]]\n"},
     {ITEMS, "[\"items\",[[[2,\"ada\"],[\"a\"]],[[4,\"ada\"],[\"c\"]]]]\n"},
   };
-  jcrdt replica = JCRDT_CLOSED;
-  jcrdt_fault fault;
-  jcrdt_open(&replica, "ada", 3, "", 0, &fault);
-  for (size_t at = 0; at < sizeof asked / sizeof *asked; at++) {
-    if (!ask(&replica, asked[at][0], text) || (asked[at][1] && strcmp(text, asked[at][1]) != 0)) stop(asked[at][0], text);
-  }
-  jcrdt_close(&replica);
+  answers(asked, sizeof asked / sizeof *asked);
 }
 
 /* A run of three with the n-th allocation refused: the reply says how many were made, and so many are in the list. Returns whether

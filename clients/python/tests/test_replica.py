@@ -15,6 +15,7 @@ from test_session import forked
 import jcrdt
 from jcrdt import replica as replica_module, wire
 from jcrdt.replica import Replica, RefusedLine
+from jcrdt.runs import ROOM
 from jcrdt.wire import Refused
 
 FIRST = '["op",[1,"ada-1"],[],[[["m",0]],"t"],["assign","Plan"]]'
@@ -96,7 +97,7 @@ class _Measured:
         if not line.startswith((b'["inserts"', b'["deletes"')):
             return length
         self.lengths.append(length)
-        return length if length <= replica_module.ROOM else 0
+        return length if length <= ROOM else 0
 
 
 def test_a_run_is_cut_where_its_answer_would_be_too_long() -> None:
@@ -113,7 +114,7 @@ def test_a_run_is_cut_where_its_answer_would_be_too_long() -> None:
         kinds = ["x", 2**63 - 1, None, {}, "\1" * 4096, "é\n\u2028" * 300, "x" * 4096, "😀"]
         values = [kinds[at % 8] for at in range(300)]
         ids = ada.insert_all([*deep, 0], values)
-        assert 10 < len(library.lengths) < 1.3 * sum(library.lengths) / replica_module.ROOM
+        assert 10 < len(library.lengths) < 1.3 * sum(library.lengths) / ROOM
         assert [ids, ada.plain(deep)] == [[it for it, _ in ada.ask("items", deep)[0]], values]
         assert ada.plain([0, "late"]) == 1
         assert len(ada.delete_all([*deep, 2], 298)) == 298
@@ -124,13 +125,13 @@ def test_a_run_is_cut_where_its_answer_would_be_too_long() -> None:
 
 
 def test_a_run_of_several_requests_is_refused_as_a_whole(ada: Replica) -> None:
-    ada.put([0, "l"], ["x" * 4096] * 40)
+    ada.put([0, "l"], ["x" * 4096] * 40 + ["x"] * 1000)
     lines = ada.lines()
     refused: List[Tuple[int, Callable[[], Any]]] = [
         (9, lambda: ada.delete_all([0, "l", 1], 2000)), (18, lambda: ada.delete_all([0, "l", 2], 2**63)),
         (10, lambda: ada.delete_all([0, "l", 0], 10)), (2, lambda: ada.delete_all([0, "l", 1], -1)),
         (6, lambda: ada.insert_all([0, "l", 1], ["x" * 4096] * 40 + ["x" * 4097])),
-        (9, lambda: ada.insert_all([0, "l", 41], ["x" * 4096] * 40)), (11, lambda: ada.insert_all([0, "l"], ["x" * 4096] * 40)),
+        (9, lambda: ada.insert_all([0, "l", 1041], ["x" * 4096] * 40)), (11, lambda: ada.insert_all([0, "l"], ["x" * 4096] * 40)),
     ]
     for number, change in refused:
         with pytest.raises(Refused) as raised:
@@ -146,9 +147,10 @@ def test_a_run_for_which_a_log_has_no_room_is_refused_as_a_whole() -> None:
     line = '["op",[{},"ada-1"],[["ada-1",{}]],[[["m",0]],"k"],["assign",1]]'.format
     with Replica("ada-1", [FIRST, *(line(at + 1, at) for at in range(1, 97_000))]) as ada:
         ada.put([0, "l"], ["x"])
-        for change in (lambda: ada.insert_all([0, "l", 0], ["x"] * 2999), lambda: ada.delete_all([0, "l", 1], 2999)):
-            with pytest.raises(Refused, match="18 log-full"):
-                change()
+        with pytest.raises(Refused, match="18 log-full"):
+            ada.insert_all([0, "l", 0], ["x"] * 2999)
+        with pytest.raises(Refused, match="18 log-full"):
+            ada.delete_all([0, "l", 1], 2999)
         assert len(ada.insert_all([0, "l", 0], ["x"] * 2998)) == 2998
 
 
