@@ -332,15 +332,19 @@ class Replica:
 
     def delete_all(self, cursor: Cursor, count: int) -> List[Id]:
         """Deletes so many elements of a list, the first one at the cursor, which ends with an index: by one request, or by a few where their
-        lines are long. Where the list has fewer none is deleted. Raises MemoryError as `insert_all`."""
+        lines are long. Where the list has fewer none is deleted. Raises ValueError for more than one behind a cursor that ends with an
+        id, where each deletion would be of that one element, and MemoryError as `insert_all`."""
         made: List[Id] = []
         if not count:
             return made
+        ends_with_index = len(cursor) > 1 and wire.is_integer(cursor[-1])
+        if count > 1 and not ends_with_index:
+            raise ValueError("the cursor of a run of deletions ends with an index: see Replica.index")
         with self._lock:
             most = max(1, LINES // self._length_of(self.place(cursor)[0], ["delete"]))
             if count > most:
                 self._check_room(count)
-                if len(cursor) > 1 and wire.is_integer(cursor[-1]):
+                if ends_with_index:
                     self.place([*cursor[:-1], cursor[-1] + count - 1])
             while not made or len(made) < count:
                 some = min(most, count - len(made))

@@ -77,6 +77,9 @@ def test_several_elements_are_inserted_and_deleted_at_once(ada: Replica) -> None
         with pytest.raises(Refused) as raised:
             change()
         assert raised.value.number == number
+    behind_a_caret = ada.place([0, "l", 1])
+    with pytest.raises(ValueError):
+        ada.delete_all(behind_a_caret, 2)
     assert ada.lines() == lines
     with Replica("ada-1", lines) as again:
         assert again.plain() == ada.plain()
