@@ -7,6 +7,7 @@ What needs a tool that isn't here is skipped, which a line says. By itself, this
 
 import argparse
 import concurrent.futures
+import filecmp
 import glob
 import os
 import re
@@ -106,10 +107,8 @@ def is_excused(folder: str, fault: str) -> bool:
 
 def unlike(made: str, kept: str) -> Iterator[str]:
     """A line for each file that is in one of two folders alone, or differs."""
-    for name in sorted({*os.listdir(made), *os.listdir(kept)}):
-        texts = [open(f"{it}/{name}", "rb").read() if os.path.isfile(f"{it}/{name}") else b"" for it in (made, kept)]
-        if texts[0] != texts[1]:
-            yield f"types/{name} isn't what tsc makes of the comments: npm run types\n"
+    _, differing, alone = filecmp.cmpfiles(made, kept, {*os.listdir(made), *os.listdir(kept)}, shallow=False)
+    yield from (f"types/{it} isn't what tsc makes of the comments: npm run types\n" for it in sorted([*differing, *alone]))
 
 
 def outcome(tool: Tool) -> Optional[str]:
