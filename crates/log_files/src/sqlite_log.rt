@@ -313,7 +313,7 @@ impl StoredLog for SqliteLog {
 
     fn epoch(&self) -> Result<u64, Fault> {
         match &self.log {
-            Some(log) => log.epoch(),
+            Some(log) => StoredLog::epoch(log),
             None => Err(Fault::Store),
         }
     }
