@@ -313,21 +313,23 @@ class Replica:
         found: Id = self.ask(*request)[2]
         return found
 
-    def insert_all(self, cursor: Cursor, values: Sequence[Any]) -> List[Id]:
+    def insert_all(self, cursor: Cursor, values: Iterable[Any]) -> List[Id]:
         """Inserts scalars, {} and [], the first one behind the element or head at the cursor, each other one behind the one before: by one
         request, or by a few where their lines are long. Where one is refused none is inserted. Raises MemoryError where memory lacks in
-        the middle: what was inserted by then stays."""
+        the middle: what was inserted by then stays. The values may come from any iterable, as a text's characters or a generator: it is
+        read to its end before anything is inserted."""
         made: List[Id] = []
-        if not values:
+        elements = list(values)
+        if not elements:
             return made
         with self._lock:
             path = self.place(cursor)[0]
-            runs = self._runs(path, values)
+            runs = self._runs(path, elements)
             if len(runs) > 1:
-                self._check_room(len(values))
+                self._check_room(len(elements))
             for begin, end in runs:
                 behind = [[path, made[-1]]] if made else cursor
-                self._make(made, end, len(values), "inserts", behind, list(values[begin:end]))
+                self._make(made, end, len(elements), "inserts", behind, elements[begin:end])
         return made
 
     def delete_all(self, cursor: Cursor, count: int) -> List[Id]:

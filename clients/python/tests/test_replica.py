@@ -68,6 +68,9 @@ def test_several_elements_are_inserted_and_deleted_at_once(ada: Replica) -> None
     assert ada.plain([0, "l"]) == ["<", {}, ">"]
     lines = ada.lines()
     assert (ada.insert_all([0, "l", 1], []), ada.delete_all([0, "l", 1], 0)) == ([], [])
+    text = Replica("ada-2")
+    assert [len(text.insert_all([0, "l", 0], it)) for it in ("né", (number for number in range(3)), iter(()))] == [2, 3, 0]
+    assert text.plain([0, "l"]) == [0, 1, 2, "n", "é"]
     refused: List[Tuple[int, Callable[[], Any]]] = [
         (9, lambda: ada.delete_all([0, "l", 2], 3)), (9, lambda: ada.insert_all([0, "l", 9], ["x"])),
         (6, lambda: ada.insert_all([0, "l", 1], ["x", 0.5])), (11, lambda: ada.insert_all([0, "l"], ["x", "y"])),

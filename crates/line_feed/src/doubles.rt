@@ -59,6 +59,14 @@ impl<W: Sink> Sink for FailAfter<W> {
 
     ghost unflushed = { λ s. W.unflushed s.device };
 
+    ghost covers = { λ s. W.covers s.device };
+
+    ghost covers_none = { λ s. W.covers_none s.device };
+
+    fn owe(&mut self, document: usize, count: u64) {
+        self.device.owe(document, count);
+    }
+
     fn write_some(&mut self, bytes: &[u8]) -> Result<usize, DeviceFault> {
         let room = bytes.len().min(self.left);
         if room == 0 {
@@ -131,6 +139,14 @@ impl<W: Sink> Sink for InPieces<W> {
     ghost has_failed = { λ s. W.has_failed s.device };
 
     ghost unflushed = { λ s. W.unflushed s.device };
+
+    ghost covers = { λ s. W.covers s.device };
+
+    ghost covers_none = { λ s. W.covers_none s.device };
+
+    fn owe(&mut self, document: usize, count: u64) {
+        self.device.owe(document, count);
+    }
 
     fn write_some(&mut self, bytes: &[u8]) -> Result<usize, DeviceFault> {
         let room = bytes.len().min(self.most);

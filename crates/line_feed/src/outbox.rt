@@ -4,6 +4,7 @@ ghost use Rattle.std.specs.Prelude.{is_err, if◌then◌else◌};
 ghost use Rattle.std.specs.Prelude.{OnOk, OnErr};
 ghost use Rattle.std.specs.Io.KnownBytes.{Appends};
 ghost use Rattle.std.specs.Option.{option_map};
+ghost use Rattle.line_feed.specs.Covered.{StaysCovered};
 
 use crate::DeviceFault;
 use crate::sink::Sink;
@@ -51,6 +52,7 @@ fn send<W: Sink>(sink: &mut W, bytes: &[u8], sent: &mut usize) -> Result<(), Dev
     ensures bytes { Appends (W.contents sink.old) (W.contents sink.new) (slice_range bytes.now sent.old sent.new) }
     ensures all { OnOk result (sent.new ≡ length bytes.now) }
     ensures part { OnErr result (sent.new < length bytes.now) }
+    ensures covered { StaysCovered (W.covers sink.old) (W.covers sink.new) }
     ensures failed { W.has_failed sink.new ≡ is_err result }
 {
     while *sent < bytes.len() {
@@ -83,6 +85,7 @@ impl<W: Sink> Outbox<W> {
             × (self.old.sent ≤ self.new.sent) × (self.new.sent < length self.old.buffer.items)
             × Appends (W.contents self.old.sink) (W.contents self.new.sink)
             (slice_range self.old.buffer.items self.old.sent self.new.sent)) }
+        ensures covered { StaysCovered (W.covers self.old.sink) (W.covers self.new.sink) }
         ensures failed { W.has_failed self.new.sink ≡ is_err result }
     {
         send(&mut self.sink, self.buffer.as_slice(), &mut self.sent)?;
@@ -99,6 +102,14 @@ impl<W: Sink> Sink for Outbox<W> {
     ghost has_failed = { λ s. W.has_failed s.sink };
 
     ghost unflushed = { λ s. W.unflushed s.sink ++ drop s.sent s.buffer.items };
+
+    ghost covers = { λ s. W.covers s.sink };
+
+    ghost covers_none = { λ s. W.covers_none s.sink };
+
+    fn owe(&mut self, document: usize, count: u64) {
+        self.sink.owe(document, count);
+    }
 
     fn write_some(&mut self, bytes: &[u8]) -> Result<usize, DeviceFault> {
         if self.keep(bytes) {

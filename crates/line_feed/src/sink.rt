@@ -5,6 +5,7 @@ ghost use Rattle.std.specs.Prelude.{IfOk, OnOk, OnErr};
 ghost use Rattle.std.specs.Io.{WritesAtMost};
 ghost use Rattle.std.specs.Io.KnownBytes.{Appends, Keeps, WriteAppends};
 ghost use Rattle.std.specs.Option.{unwrap_or};
+ghost use Rattle.line_feed.specs.Covered.{StaysCovered};
 ghost use Rattle.line_feed.specs.Cut.{AppendsCut, LosesLast, taken};
 
 use crate::DeviceFault;
@@ -21,6 +22,19 @@ pub trait Sink {
     /// What it has taken and its device may not have yet: nothing after a flush.
     ghost unflushed: { Self → List ℕ } = { λ _. [] };
 
+    /// It lets no byte out before the document of this number has so many operations stored. A sink
+    /// that isn't over a stored log need not wait: it covers any.
+    ghost covers: { Self → ℕ → ℕ → Type 0 } = { λ _ _ _. Unit {0} };
+
+    /// Waits, before it lets the next byte out, until the document of this number has so many
+    /// operations stored. It doesn't call the device.
+    fn owe(&mut self, document: usize, count: u64)
+        ensures covers { covers self.new document count }
+        ensures covered { StaysCovered (covers self.old) (covers self.new) }
+        ensures bytes { contents self.new ≡ contents self.old }
+        ensures unflushed { unflushed self.new ≡ unflushed self.old }
+        ensures failed { has_failed self.new ≡ has_failed self.old };
+
     /// Takes a prefix of `bytes`, of at least one byte, and returns its length. It calls the device
     /// once, and doesn't try again. `DeviceFault` if that call fails; then the device has taken
     /// none, and the sink has failed.
@@ -30,6 +44,7 @@ pub trait Sink {
         ensures at_least { IfOk result (λ n. 0 < n) }
         ensures bound { WritesAtMost result bytes.now }
         ensures bytes { WriteAppends (contents self.old) (contents self.new) result bytes.now }
+        ensures covered { StaysCovered (covers self.old) (covers self.new) }
         ensures failed { has_failed self.new ≡ is_err result };
 
     /// Writes to the device what the sink and all below it have not flushed. `DeviceFault` if the
@@ -40,11 +55,15 @@ pub trait Sink {
         ensures bytes { OnOk result (Keeps (contents self.old) (contents self.new)) }
         ensures lost { OnErr result (LosesLast (contents self.old) (contents self.new)) }
         ensures empty { OnOk result (unflushed self.new ≡ []) }
+        ensures covered { StaysCovered (covers self.old) (covers self.new) }
         ensures failed { has_failed self.new ≡ is_err result };
 
     /// Whether a call has failed, after which the device isn't written to again.
     fn failed(&self) -> bool
         ensures { result ≡ has_failed self.now };
+
+    /// The law that no operation is waited for where none is owed.
+    ghost covers_none: { (sink : Self) (number : ℕ) → covers sink number 0 };
 }
 
 /// A sink over any writer of std. A write of 0 bytes and an interrupted write are failures.
@@ -92,6 +111,11 @@ impl<W: Write> Sink for Writer<W> {
 
     ghost unflushed = { λ s. if s.is_dirty then unwrap_or (W.contents s.writer) [] else [] };
 
+    ghost covers_none = { λ _ _. tt };
+
+    // Nothing here is stored.
+    fn owe(&mut self, _document: usize, _count: u64) {}
+
     fn write_some(&mut self, bytes: &[u8]) -> Result<usize, DeviceFault> {
         match self.writer.write(bytes) {
             Ok(n) if n > 0 => {
@@ -125,6 +149,7 @@ pub fn write_all<W: Sink>(sink: &mut W, bytes: &[u8]) -> Result<(), DeviceFault>
     requires { W.has_failed sink.old ≡ false }
     ensures ok { OnOk result (Appends (W.contents sink.old) (W.contents sink.new) bytes.now) }
     ensures cut { OnErr result (AppendsCut (W.contents sink.old) (W.contents sink.new) bytes.now) }
+    ensures covered { StaysCovered (W.covers sink.old) (W.covers sink.new) }
     ensures failed { W.has_failed sink.new ≡ is_err result }
 {
     let mut rest = bytes;

@@ -7,6 +7,7 @@ ghost use Rattle.serde_json.specs.View.{items_of};
 ghost use Rattle.serde_json.specs.Written.{comma_if, compact_text, items_text};
 ghost use Rattle.op_core.specs.Wire.{id_data};
 ghost use Rattle.doc_api.specs.declared.reply.Reply.TheVariants.{Held, Waiting};
+ghost use Rattle.line_feed.specs.Covered.{StaysCovered};
 ghost use Rattle.line_feed.specs.Cut.{AppendsCut};
 ghost use Rattle.line_proto.specs.declared.stack_line.TheConstants.{SHORT_LINE};
 ghost use Rattle.line_proto.specs.Replies.{line_text, reply_data, waiting_data};
@@ -24,6 +25,7 @@ pub(crate) fn write_held<W: Sink>(missing: &[Id], sink: &mut W) -> Result<(), De
         (line_text (reply_data (Held missing.now)))) }
     ensures cut { OnErr result (AppendsCut (W.contents sink.old) (W.contents sink.new)
         (line_text (reply_data (Held missing.now)))) }
+    ensures covered { StaysCovered (W.covers sink.old) (W.covers sink.new) }
     ensures failed { W.has_failed sink.new ≡ is_err result }
 {
     let mut piece = Piece::new();
@@ -39,6 +41,7 @@ pub(crate) fn write_waiting<W: Sink>(waiting: &[(Id, Ids)], sink: &mut W) -> Res
         (line_text (reply_data (Waiting waiting.now)))) }
     ensures cut { OnErr result (AppendsCut (W.contents sink.old) (W.contents sink.new)
         (line_text (reply_data (Waiting waiting.now)))) }
+    ensures covered { StaysCovered (W.covers sink.old) (W.covers sink.new) }
     ensures failed { W.has_failed sink.new ≡ is_err result }
 {
     let mut piece = Piece::new();
@@ -53,6 +56,7 @@ fn write_end<W: Sink>(piece: &mut Piece, sink: &mut W) -> Result<(), DeviceFault
     ensures ok { OnOk result (Appends (W.contents sink.old) (W.contents sink.new) (piece.old.bytes ++ 93 ∷ 10 ∷ [])) }
     ensures cut { OnErr result (AppendsCut (W.contents sink.old) (W.contents sink.new)
         (piece.old.bytes ++ 93 ∷ 10 ∷ [])) }
+    ensures covered { StaysCovered (W.covers sink.old) (W.covers sink.new) }
     ensures failed { W.has_failed sink.new ≡ is_err result }
 {
     put("]\n", piece, sink)?;
@@ -70,6 +74,7 @@ fn put_all_waiting<W: Sink>(
         piece.old.bytes piece.new.bytes (items_text false (items_of (map waiting_data waiting.now)))) }
     ensures cut { OnErr result (AppendsCut (W.contents sink.old) (W.contents sink.new)
         (piece.old.bytes ++ items_text false (items_of (map waiting_data waiting.now)))) }
+    ensures covered { StaysCovered (W.covers sink.old) (W.covers sink.new) }
     ensures failed { W.has_failed sink.new ≡ is_err result }
 {
     for i in 0..waiting.len() {
@@ -90,6 +95,7 @@ fn put_waiting<W: Sink>(
         piece.old.bytes piece.new.bytes (comma_if later ++ compact_text (waiting_data entry.now))) }
     ensures cut { OnErr result (AppendsCut (W.contents sink.old) (W.contents sink.new)
         (piece.old.bytes ++ (comma_if later ++ compact_text (waiting_data entry.now)))) }
+    ensures covered { StaysCovered (W.covers sink.old) (W.covers sink.new) }
     ensures failed { W.has_failed sink.new ≡ is_err result }
 {
     put(waiting_start(later, &entry.0).as_str(), piece, sink)?;
@@ -104,6 +110,7 @@ fn put_ids<W: Sink>(ids: &[Id], piece: &mut Piece, sink: &mut W) -> Result<(), D
         piece.old.bytes piece.new.bytes (items_text false (items_of (map id_data ids.now)))) }
     ensures cut { OnErr result (AppendsCut (W.contents sink.old) (W.contents sink.new)
         (piece.old.bytes ++ items_text false (items_of (map id_data ids.now)))) }
+    ensures covered { StaysCovered (W.covers sink.old) (W.covers sink.new) }
     ensures failed { W.has_failed sink.new ≡ is_err result }
 {
     for i in 0..ids.len() {
@@ -119,6 +126,7 @@ fn put<W: Sink>(text: &str, piece: &mut Piece, sink: &mut W) -> Result<(), Devic
     ensures ok { OnOk result (WritesText (W.contents sink.old) (W.contents sink.new)
         piece.old.bytes piece.new.bytes text.now) }
     ensures cut { OnErr result (AppendsCut (W.contents sink.old) (W.contents sink.new) (piece.old.bytes ++ text.now)) }
+    ensures covered { StaysCovered (W.covers sink.old) (W.covers sink.new) }
     ensures failed { W.has_failed sink.new ≡ is_err result }
 {
     make_room(piece, sink)?;
@@ -149,6 +157,7 @@ fn make_room<W: Sink>(piece: &mut Piece, sink: &mut W) -> Result<(), DeviceFault
         × Appends (W.contents sink.old) (W.contents sink.new) written
         × (piece.old.bytes ≡ written ++ piece.new.bytes) × (length piece.new.bytes ≤ 896)) }
     ensures cut { OnErr result (AppendsCut (W.contents sink.old) (W.contents sink.new) piece.old.bytes) }
+    ensures covered { StaysCovered (W.covers sink.old) (W.covers sink.new) }
     ensures failed { W.has_failed sink.new ≡ is_err result }
 {
     if piece.len() > 896 {

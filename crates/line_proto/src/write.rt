@@ -5,6 +5,7 @@ ghost use Rattle.serde_json.specs.Data.{Data};
 ghost use Rattle.serde_json.specs.Written.{compact_text};
 ghost use Rattle.doc_api.specs.declared.reply.Reply.TheVariants.{Conflicts, Items, Keys};
 ghost use Rattle.doc_api.specs.declared.reply.Reply.TheVariants.{Chains, Operations, Show};
+ghost use Rattle.line_feed.specs.Covered.{StaysCovered};
 ghost use Rattle.line_feed.specs.Cut.{AppendsCut, line_of};
 ghost use Rattle.line_proto.specs.Replies.{reply_text, line_reply_text, reply_line, worded};
 ghost use Rattle.line_proto.specs.Writing.{needs_heap, is_in_pieces, line_needs_heap, is_device};
@@ -53,6 +54,7 @@ impl LineReply {
             → AppendsCut (W.contents sink.old) (W.contents sink.new) (reply_line self.now) }
         ensures memory { result ≡ Err WriteFault.NoMemory → (sink.new ≡ sink.old)
             × (line_needs_heap self.now ≡ true) }
+        ensures covered { StaysCovered (W.covers sink.old) (W.covers sink.new) }
         ensures failed { W.has_failed sink.new ≡ is_device result }
     {
         match self {
@@ -111,6 +113,7 @@ fn write_reply<W: Sink>(alloc: Global, reply: &Reply, sink: &mut W) -> Result<()
         → AppendsCut (W.contents sink.old) (W.contents sink.new) (line_of (reply_text reply.now)) }
     ensures memory { result ≡ Err WriteFault.NoMemory → (sink.new ≡ sink.old)
         × (needs_heap reply.now ≡ true) }
+    ensures covered { StaysCovered (W.covers sink.old) (W.covers sink.new) }
     ensures failed { W.has_failed sink.new ≡ is_device result }
 {
     match reply {
@@ -135,6 +138,7 @@ fn write_whole<W: Sink>(alloc: Global, reply: &Reply, sink: &mut W) -> Result<()
         → AppendsCut (W.contents sink.old) (W.contents sink.new) (line_of (reply_text reply.now)) }
     ensures memory { result ≡ Err WriteFault.NoMemory → (sink.new ≡ sink.old)
         × (needs_heap reply.now ≡ true) }
+    ensures covered { StaysCovered (W.covers sink.old) (W.covers sink.new) }
     ensures failed { W.has_failed sink.new ≡ is_device result }
 {
     match stack_line(reply) {
@@ -173,6 +177,7 @@ fn write_stack_line<W: Sink>(sink: &mut W, line: &Line) -> Result<(), WriteFault
     ensures device { result ≡ Err WriteFault.Device
         → AppendsCut (W.contents sink.old) (W.contents sink.new) line.now.bytes }
     ensures memory { result ≢ Err WriteFault.NoMemory }
+    ensures covered { StaysCovered (W.covers sink.old) (W.covers sink.new) }
     ensures failed { W.has_failed sink.new ≡ is_device result }
 {
     Ok(write_all(sink, line.as_str().as_bytes())?)
@@ -186,6 +191,7 @@ fn write_heap_line<W: Sink>(alloc: Global, reply: &Reply, sink: &mut W) -> Resul
     ensures device { result ≡ Err WriteFault.Device
         → AppendsCut (W.contents sink.old) (W.contents sink.new) (line_of (reply_text reply.now)) }
     ensures memory { result ≡ Err WriteFault.NoMemory → sink.new ≡ sink.old }
+    ensures covered { StaysCovered (W.covers sink.old) (W.covers sink.new) }
     ensures failed { W.has_failed sink.new ≡ is_device result }
 {
     let Ok(line) = heap_line(alloc, reply) else {

@@ -102,14 +102,14 @@ module _ {S : Type 0} (g : Ghosts S) (alone_in : S → Trees → Type 0) (old : 
           holds = subst (Holds (content epoch docs)) (sym (r.same clean ∙ ap (λ (d : Database). d.trees) s.committed)) s.holds;
         }
 
-    pub was_alone : (new : Held S) → Reopens g alone_in old new → has_failed ≡ false → is_alone ≡ true → HasCleanDisk (shown g new) → WasAlone g alone_in (content epoch docs) old.store
+    pub was_alone : (new : Held S) → Reopens g alone_in old new → has_failed ≡ false → is_alone ≡ true → HasCleanDisk (shown g new) → WasAlone g alone_in (content epoch docs) old
     was_alone new r works alone clean =
         let on = r.still_clean clean in
         let s = sound.serves works alone (omega (arith, r.folded.quiet.clean)) in
         record {
           last = r.last;
-          db = (g.view r.last).committed;
-          quiet = r.folded.quiet;
-          alone = r.folded.alone on;
+          folded = r.folded;
+          clean = on;
           holds = subst (Holds (content epoch docs)) (sym (r.folded.same on ∙ ap (λ (d : Database). d.trees) s.committed)) s.holds;
+          left = still_held r.last r.folded works alone;
         }

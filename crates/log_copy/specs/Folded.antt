@@ -51,13 +51,14 @@ module _ {S : Type 0} (g : Ghosts S) (holds_alone : S → Trees → Type 0) wher
     pub opens : HasCleanDisk (state g new) → Opens (state g new)
     pub same : HasCleanDisk (state g new) → (state g new).now.trees ≡ (state g old).committed.trees
 
-  -- In between, the store's database file alone held this.
-  pub record WasAlone (what : Content) (old : S) : Type 0 where
+  -- In between, the store had what was last committed in its database file alone, which was this,
+  -- and a crash then left it.
+  pub record WasAlone (what : Content) (old : Held S) : Type 0 where
     pub last : S
-    pub db : Trees
-    pub quiet : Quiets g old last
-    pub alone : holds_alone last db
-    pub holds : Holds what db
+    pub folded : HasFolded old last
+    pub clean : IsClean (g.view last)
+    pub holds : Holds what (g.view last).committed
+    pub left : StoreHas g what last
 
   -- The store's database file alone holds this.
   abbrev pub FileHas : Content → S → Type 0

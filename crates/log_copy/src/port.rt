@@ -6,11 +6,12 @@ ghost use Rattle.log_copy.specs.Port.{CrashLeaves, copied_log};
 
 use crate::copy::LogCopy;
 use crate::fold::Foldable;
-use op_core::Operation;
+use lamport_id::ReplicaName;
+use op_core::{Front, Operation};
 use op_log::OpLog;
 use sqlite::{Alter, ErrorCode};
 use std::alloc::Global;
-use stored_log::{Fault, StoredDoc, StoredFault, StoredLog};
+use stored_log::{Fault, StoredFault, StoredLog};
 
 /// The error of the database as one of a stored log.
 pub fn stored_fault_of(code: ErrorCode) -> StoredFault {
@@ -57,8 +58,10 @@ pub fn append_there<S: Alter + Drop>(
 impl<S: Foldable + Drop> StoredLog for LogCopy<S> {
     type Left = S;
 
-    ghost use Rattle.log_copy.specs.Port.{CrashLeaves, HasCommitted, IsInFile, IsInStore, IsSure};
-    ghost use Rattle.log_copy.specs.Port.{WasInFile};
+    ghost use Rattle.sqlite_trees.specs.View.{IsClean};
+    ghost use Rattle.stored_log.specs.Log.{IsRaisedOrNot};
+    ghost use Rattle.log_copy.specs.Port.{CrashLeaves, HasMoved, IsInFile, IsInStore, IsSure};
+    ghost use Rattle.log_copy.specs.Port.{StoreLeaves, WasInFile, leaves_moved, same_such, was_in};
     ghost use Rattle.log_copy.specs.Port.{copied_log, keeps_such};
 
     ghost log = { copied_log };
@@ -73,11 +76,30 @@ impl<S: Foldable + Drop> StoredLog for LogCopy<S> {
 
     ghost is_in_store = { IsInStore S.Store };
 
-    ghost has_moved = { HasCommitted S.Store S.Foldable.holds_alone };
+    ghost has_moved = { HasMoved S.Store S.Foldable.holds_alone };
+
+    ghost is_left_sure = { λ last. IsClean (S.Store.view last) };
+
+    ghost left_survives = { StoreLeaves S.Store };
 
     ghost still_keeps = { λ it first last kept left alone clean db may. keeps_such first last kept db (left alone clean db may) };
 
     ghost is_left = { λ it last both alone. (both alone).1 };
+
+    ghost is_kept = { λ it last is alone clean db may. same_such it (is alone clean db may) };
+
+    ghost has_all = { λ it last moved. moved.has_all };
+
+    ghost moved_same = { λ it last kept moved. leaves_moved (HasSame kept) it last moved };
+
+    ghost moved_epoch = { λ it last old moved. leaves_moved (IsRaisedOrNot old) it last moved };
+
+    ghost moved_batch = { λ it last name ops old moved.
+        leaves_moved (IsAddedOrNot name ops old) it last moved };
+
+    ghost still_same = { λ old new was. was.same };
+
+    ghost was_left = { λ old new was sure. was_in old new was sure };
 
     fn cause(&self) -> Option<StoredFault> {
         LogCopy::cause(self)
@@ -91,13 +113,23 @@ impl<S: Foldable + Drop> StoredLog for LogCopy<S> {
         LogCopy::epoch_up(self)
     }
 
-    fn docs(&self) -> Result<&[StoredDoc], Fault> {
-        LogCopy::docs(self)
-    }
-
     fn rows(&self, doc: &str) -> Result<usize, Fault> {
         let docs = LogCopy::docs(self)?;
         Ok(stored_log::count(docs, doc))
+    }
+
+    fn has_made(&self, doc: &str, replica: &ReplicaName) -> Result<bool, Fault> {
+        let docs = LogCopy::docs(self)?;
+        Ok(stored_log::has_made(docs, doc, replica))
+    }
+
+    fn front(&self, doc: &str) -> Result<Front, Fault> {
+        LogCopy::front(self, doc)
+    }
+
+    fn names(&self, alloc: Global) -> Result<Vec<String>, Fault> {
+        let docs = LogCopy::docs(self)?;
+        stored_log::names(docs, alloc)
     }
 
     fn load(&self, alloc: Global, doc: &str) -> Result<OpLog, Fault> {

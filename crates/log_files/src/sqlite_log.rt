@@ -6,21 +6,22 @@
 //! calls is over any store.
 ghost use Rattle.std.specs.Prelude.{◌≡◌, IfOk, IfErr, IfSome, MatchOption, Some, None, true, false};
 ghost use Rattle.std.specs.Prelude.{option_map, unwrap_or};
-ghost use Rattle.stored_log.specs.Log.{HasBatchAgain, HasSame};
+ghost use Rattle.stored_log.specs.Log.{HasBatchAgain, HasSame, LeavesOne};
 ghost use Rattle.log_copy.specs.Again.{no_log, parts_log};
 ghost use Rattle.log_copy.specs.Kept.{IsStorable};
 ghost use Rattle.log_copy.specs.Port.{CrashLeaves, copied_log};
 
 use crate::files::SqliteFile;
 use crate::place::Place;
+use lamport_id::ReplicaName;
 use log_copy::{Failed, LogCopy, Parts, append_there, resumed, stored_fault_of};
-use op_core::Operation;
+use op_core::{Front, Operation};
 use op_log::OpLog;
 use sqlite::{Alter, Connection, Error, ErrorCode, File, Files, Options};
 use std::alloc::Global;
 use std::hash::{BuildHasher, RandomState};
 use std::mem;
-use stored_log::{Fault, StoredDoc, StoredFault, StoredLog, count, log_clone};
+use stored_log::{Fault, StoredFault, StoredLog, count, has_made, log_clone, names};
 
 /// What a stored log had whose files can't be used now, and the files, which stay locked. They are
 /// missing where a sync failed: then they are opened anew by their path.
@@ -233,6 +234,9 @@ fn fold_log(place: Place, log: LogCopy<SqliteFile>) -> Result<SqliteLog, (Stored
         (λ d. ⟦<LogCopy<SqliteFile> as StoredLog>⟧.was_alone log d)) }
     ensures left { IfErr result (λ e. log.has_failed ≡ false → MatchOption e.1.file ⊥
         (λ f. ⟦<LogCopy<SqliteFile> as StoredLog>⟧.is_in_store log f)) }
+    ensures sure { IfErr result (λ e. MatchOption e.1.file ⊥
+        (λ f. ⟦<LogCopy<SqliteFile> as StoredLog>⟧.is_left_sure f) → LeavesOne (λ such. MatchOption e.1.file ⊥
+        (λ f. ⟦<LogCopy<SqliteFile> as StoredLog>⟧.left_survives f such))) }
 {
     match StoredLog::fold(log) {
         Ok(log) => Ok(SqliteLog::new(place, log)),
@@ -248,6 +252,12 @@ fn close_log(log: LogCopy<SqliteFile>) -> Result<ClosedFile, (StoredFault, Close
         (λ f. ⟦<LogCopy<SqliteFile> as StoredLog>⟧.has_moved log f)) }
     ensures left { IfErr result (λ e. log.has_failed ≡ false → MatchOption e.1.file ⊥
         (λ f. ⟦<LogCopy<SqliteFile> as StoredLog>⟧.is_in_store log f)) }
+    ensures one { IfOk result (λ last. MatchOption last.file ⊥
+        (λ f. ⟦<LogCopy<SqliteFile> as StoredLog>⟧.is_left_sure f) → LeavesOne (λ such. MatchOption last.file ⊥
+        (λ f. ⟦<LogCopy<SqliteFile> as StoredLog>⟧.left_survives f such))) }
+    ensures sure { IfErr result (λ e. MatchOption e.1.file ⊥
+        (λ f. ⟦<LogCopy<SqliteFile> as StoredLog>⟧.is_left_sure f) → LeavesOne (λ such. MatchOption e.1.file ⊥
+        (λ f. ⟦<LogCopy<SqliteFile> as StoredLog>⟧.left_survives f such))) }
 {
     match StoredLog::close(log) {
         Ok(file) => Ok(ClosedFile { file: Some(file) }),
@@ -268,8 +278,9 @@ impl StoredLog for SqliteLog {
     type Left = ClosedFile;
 
     ghost use Rattle.log_copy.specs.Again.{parts_log, no_log};
-    ghost use Rattle.log_copy.specs.Port.{copied_log, if_there, keeps_such};
-    ghost use Rattle.stored_log.specs.Log.{IsRaisedOrNot, KeepsAll};
+    ghost use Rattle.log_copy.specs.Port.{all_there, copied_log, if_there, keeps_such, leaves_there};
+    ghost use Rattle.log_copy.specs.Port.{left_there, same_such, same_there, still_there};
+    ghost use Rattle.stored_log.specs.Log.{IsAddedOrNot, IsRaisedOrNot, KeepsAll};
 
     ghost log = { λ it. unwrap_or (option_map copied_log it.log)
         (unwrap_or (option_map (λ s. parts_log s.parts) it.shut) no_log) };
@@ -290,6 +301,12 @@ impl StoredLog for SqliteLog {
     ghost has_moved = { λ it last. MatchOption it.log ⊥ (λ c. MatchOption last.file ⊥
         (λ f. ⟦<LogCopy<SqliteFile> as StoredLog>⟧.has_moved c f)) };
 
+    ghost is_left_sure = { λ last. MatchOption last.file ⊥
+        (λ f. ⟦<LogCopy<SqliteFile> as StoredLog>⟧.is_left_sure f) };
+
+    ghost left_survives = { λ last such. MatchOption last.file ⊥
+        (λ f. ⟦<LogCopy<SqliteFile> as StoredLog>⟧.left_survives f such) };
+
     ghost still_keeps = { λ it first last kept left. if_there
         {P = λ c. ⟦<LogCopy<SqliteFile> as StoredLog>⟧.survives c (IsRaisedOrNot last)}
         {Q = λ c. ⟦<LogCopy<SqliteFile> as StoredLog>⟧.survives c (KeepsAll first)} it.log
@@ -303,6 +320,31 @@ impl StoredLog for SqliteLog {
         {Q = λ f. ⟦<LogCopy<SqliteFile> as StoredLog>⟧.is_in_store c f} last.file
         (λ f has alone. (has alone).1) is) both };
 
+    ghost is_kept = { λ it last. same_there
+        (λ c f. ⟦<LogCopy<SqliteFile> as StoredLog>⟧.is_in_store c f)
+        (λ f such. ⟦<LogCopy<SqliteFile> as StoredLog>⟧.left_survives f such) it.log last.file
+        (unwrap_or (option_map (λ s. parts_log s.parts) it.shut) no_log)
+        (λ c f is alone clean db may. same_such c (is alone clean db may)) };
+
+    ghost has_all = { λ it last. all_there _ _ it.log last.file
+        (unwrap_or (option_map (λ s. parts_log s.parts) it.shut) no_log) };
+
+    ghost moved_same = { λ it last kept. leaves_there _ _ (HasSame kept) it.log last.file
+        (unwrap_or (option_map (λ s. parts_log s.parts) it.shut) no_log) };
+
+    ghost moved_epoch = { λ it last old. leaves_there _ _ (IsRaisedOrNot old) it.log last.file
+        (unwrap_or (option_map (λ s. parts_log s.parts) it.shut) no_log) };
+
+    ghost moved_batch = { λ it last name ops old. leaves_there _ _ (IsAddedOrNot name ops old) it.log last.file
+        (unwrap_or (option_map (λ s. parts_log s.parts) it.shut) no_log) };
+
+    ghost still_same = { λ old new. still_there _ _ old.log new.log
+        (unwrap_or (option_map (λ s. parts_log s.parts) old.shut) no_log)
+        (unwrap_or (option_map (λ s. parts_log s.parts) new.shut) no_log) };
+
+    ghost was_left = { λ old new was sure. let found = left_there _ _ old.log new.log was sure in
+        (record { file = Some found.0 }, found.1, found.2) };
+
     fn cause(&self) -> Option<StoredFault> {
         match (&self.log, &self.shut) {
             (Some(log), _) => log.cause(),
@@ -314,7 +356,10 @@ impl StoredLog for SqliteLog {
     fn epoch(&self) -> Result<u64, Fault> {
         match &self.log {
             Some(log) => StoredLog::epoch(log),
-            None => Err(Fault::Store),
+            None => {
+                keeps_storable(&self.shut);
+                Err(Fault::Store)
+            }
         }
     }
 
@@ -325,24 +370,39 @@ impl StoredLog for SqliteLog {
         }
     }
 
-    fn docs(&self) -> Result<&[StoredDoc], Fault> {
+    fn rows(&self, doc: &str) -> Result<usize, Fault> {
         match &self.log {
-            Some(log) => log.docs(),
-            None => {
-                keeps_storable(&self.shut);
-                Err(Fault::Store)
-            }
+            Some(log) => Ok(count(log.docs()?, doc)),
+            None => Err(Fault::Store),
         }
     }
 
-    fn rows(&self, doc: &str) -> Result<usize, Fault> {
-        let docs = StoredLog::docs(self)?;
-        Ok(count(docs, doc))
+    fn has_made(&self, doc: &str, replica: &ReplicaName) -> Result<bool, Fault> {
+        match &self.log {
+            Some(log) => Ok(has_made(log.docs()?, doc, replica)),
+            None => Err(Fault::Store),
+        }
+    }
+
+    fn front(&self, doc: &str) -> Result<Front, Fault> {
+        match &self.log {
+            Some(log) => log.front(doc),
+            None => Err(Fault::Store),
+        }
+    }
+
+    fn names(&self, alloc: Global) -> Result<Vec<String>, Fault> {
+        match &self.log {
+            Some(log) => names(log.docs()?, alloc),
+            None => Err(Fault::Store),
+        }
     }
 
     fn load(&self, alloc: Global, doc: &str) -> Result<OpLog, Fault> {
-        let docs = StoredLog::docs(self)?;
-        log_clone(docs, alloc, doc)
+        match &self.log {
+            Some(log) => log_clone(log.docs()?, alloc, doc),
+            None => Err(Fault::Store),
+        }
     }
 
     /// Before each batch it looks once whether the file is still at its path, under no other name.

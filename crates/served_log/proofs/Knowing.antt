@@ -9,7 +9,7 @@ use Rattle.json_scalar.specs.declared.refusal.Refusal.{Refusal}
 use Rattle.doc_api.specs.Words.{Id, Op}
 use Rattle.doc_rules.specs.Document.{Document, tail}
 use Rattle.doc_rules.specs.Seats.{operation_ids}
-use Rattle.locked_doc.specs.Followed.{Followed, IsPrefix}
+use Rattle.locked_doc.specs.Followed.{Followed, Copying, copying, IsPrefix}
 use Rattle.server_core.specs.Sums.{AreBooksFrom}
 use Rattle.stored_log.specs.Docs.{Doc, add_batch, log_of}
 use Rattle.stored_log.specs.Limits.{most_rows}
@@ -17,7 +17,7 @@ use Rattle.stored_log.specs.declared.fault.Fault.{Fault}
 use Rattle.stored_log.specs.declared.fault.Fault.TheVariants.{Memory, Store}
 use Rattle.stored_log.proofs.DocLemmas.{batch_added, batch_others}
 use Rattle.served_log.specs.Batches.{AddsMany, AddsOf}
-use Rattle.served_log.specs.Known.{AllDiffer, AreKnown, AreNumbered, AreReadFrom, HoldsPrefix, StaysKnown, nothing_read}
+use Rattle.served_log.specs.Known.{AllDiffer, AreKnown, AreNumbered, AreReadFrom, EndsWith, HoldsPrefix, KnowsRows, StaysKnown, no_book, nothing_read}
 
 -- ---- prefixes
 
@@ -64,19 +64,47 @@ known_added docs name ops from before after behind read grows known =
     ap operation_ids (batch_added name ops docs) ∙ map-append (λ (op : Op). op.id) (log_of name docs) ops in
     subst (λ ids. IsPrefix ids after) (sym added) (prefix_more most_rows from rows after (operation_ids ops) (known_grown docs name before after grows known) many read)
 
+-- the log of a document after its next entries were added
+pub log_next : {name : List ℕ} {many : ℕ} {old new : List Doc} {entries : List Op} → (adds : AddsMany name many old new) × (adds.next.ops ≡ entries) → log_of name new ≡ log_of name old ++ entries
+log_next {name = n} {old = old} (adds, these) = ap (log_of n) adds.next.added ∙ batch_added n adds.next.ops old ∙ ap (λ ops. log_of n old ++ ops) these
+
+-- so it ends with them
+pub ends_next : {name : List ℕ} {many : ℕ} {old new : List Doc} {entries : List Op} → (adds : AddsMany name many old new) × (adds.next.ops ≡ entries) → EndsWith new name entries
+ends_next {name = n} {old = old} adds = (log_of n old, log_next adds)
+
+-- and is longer by so many
+pub long_next : {name : List ℕ} {many from told : ℕ} {old new : List Doc} {entries : List Op} → told ≡ from → from ≡ length (log_of name old) → (adds : AddsMany name many old new) × (adds.next.ops ≡ entries)
+    → told + length entries ≡ length (log_of name new)
+long_next {name = n} {old = old} {entries = entries} same behind adds =
+    omega (arith, same, behind, ap length (log_next adds), length-append (log_of n old) entries)
+
 -- the entries that were read next were added
-pub known_next : {name : List ℕ} {many from : ℕ} {old new : List Doc} {entries next : List Op} (before after : List Id) → from ≡ length (log_of name old) → entries ≡ next → AreReadFrom from next after
+prefix_next : {name : List ℕ} {many from : ℕ} {old new : List Doc} {entries next : List Op} (before after : List Id) → from ≡ length (log_of name old) → entries ≡ next → AreReadFrom from next after
     → IsPrefix before after → (adds : AddsMany name many old new) × (adds.next.ops ≡ entries) → HoldsPrefix old name before → HoldsPrefix new name after
-known_next {name = n} {from = k} {old = old} before after behind read_is read grows (adds, these) known =
+prefix_next {name = n} {from = k} {old = old} before after behind read_is read grows (adds, these) known =
     subst (λ docs. HoldsPrefix docs n after) (sym adds.next.added)
     (known_added old n adds.next.ops k before after behind (subst (λ ops. AreReadFrom k ops after) (sym (these ∙ read_is)) read) grows known)
 
+-- and they count as stored
+pub known_next : {name : List ℕ} {many from : ℕ} {old new : List Doc} {entries next : List Op} (before mid after : Copying) → from ≡ length (log_of name old) → entries ≡ next → AreReadFrom from next mid.ids
+    → IsPrefix before.ids mid.ids → mid.stored ≡ before.stored → after ≡ copying mid.number mid.ids (mid.stored ++ operation_ids entries)
+    → (adds : AddsMany name many old new) × (adds.next.ops ≡ entries) → KnowsRows old name before → KnowsRows new name after
+known_next {name = n} {old = old} {new = new} {entries = entries} before mid after behind read_is read grows same is adds known = record {
+  prefix = subst (λ ids. HoldsPrefix new n ids) (sym (ap (λ (c : Copying). c.ids) is)) (prefix_next before.ids mid.ids behind read_is read grows adds known.prefix);
+  stored = ap (λ (c : Copying). c.stored) is ∙ ap (λ ids. ids ++ operation_ids entries) (same ∙ known.stored)
+      ∙ sym (ap operation_ids (log_next adds) ∙ map-append (λ (op : Op). op.id) (log_of n old) entries);
+}
+
+-- nothing was added
+pub known_still : (docs : List Doc) (name : List ℕ) (before after : Copying) → IsPrefix before.ids after.ids → after.stored ≡ before.stored → KnowsRows docs name before → KnowsRows docs name after
+known_still docs name before after grows same known = record { prefix = known_grown docs name before.ids after.ids grows known.prefix; stored = same ∙ known.stored }
+
 -- the log stayed as it was, up to a fault of the store
-pub known_kept : {L X : Type 0} (docs : L → List Doc) (name : List ℕ) (old new : L) (before after : List Id) (r : Result X Fault) (e : Fault) → r ≡ Err e → IsPrefix before after
-    → (e ≡ Store) ⊎ (new ≡ old) → (r ≡ Err Store) ⊎ (HoldsPrefix (docs old) name before → HoldsPrefix (docs new) name after)
-known_kept docs name old new before after r e is grows (inl store) = inl (is ∙ ap Err store)
-known_kept docs name old new before after r e is grows (inr same) =
-    inr (λ known. subst (λ l. HoldsPrefix (docs l) name after) (sym same) (known_grown (docs old) name before after grows known))
+pub known_kept : {L X : Type 0} (docs : L → List Doc) (name : List ℕ) (old new : L) (before after : Copying) (r : Result X Fault) (e : Fault) → r ≡ Err e → IsPrefix before.ids after.ids
+    → after.stored ≡ before.stored → (e ≡ Store) ⊎ (new ≡ old) → (r ≡ Err Store) ⊎ (KnowsRows (docs old) name before → KnowsRows (docs new) name after)
+known_kept docs name old new before after r e is grows same (inl store) = inl (is ∙ ap Err store)
+known_kept docs name old new before after r e is grows same (inr unchanged) =
+    inr (λ known. subst (λ l. KnowsRows (docs l) name after) (sym unchanged) (known_still (docs old) name before after grows same known))
 
 -- ---- all documents
 
@@ -91,74 +119,82 @@ others_stay origin number docs name (Err e) old new some none (inl store) = inl 
 others_stay origin number docs name (Err e) old new some none (inr same) = inr (λ other apart. ap (λ l. log_of other (docs l)) same)
 
 -- the seat in one place, and the others
-known_at : (names : List (List ℕ)) (old new : List Doc) (seats : List Followed) (i : ℕ) (name : List ℕ) (seat : Followed) → i < length names → name ≡ get_or names i []
-    → ((other : List ℕ) → name ≢ other → log_of other new ≡ log_of other old) → (HoldsPrefix old name (get_or seats i nothing_read).ids → HoldsPrefix new name seat.ids)
-    → AllDiffer names → AreKnown old names seats → (k : ℕ) → k < length names → Dec (k ≡ i) → HoldsPrefix new (get_or names k []) (get_or (set seats i seat) k nothing_read).ids
+known_at : (names : List (List ℕ)) (old new : List Doc) (seats : List Copying) (i : ℕ) (name : List ℕ) (seat : Copying) → i < length names → name ≡ get_or names i []
+    → ((other : List ℕ) → name ≢ other → log_of other new ≡ log_of other old) → (KnowsRows old name (get_or seats i nothing_read) → KnowsRows new name seat)
+    → AllDiffer names → AreKnown old names seats → (k : ℕ) → k < length names → Dec (k ≡ i) → KnowsRows new (get_or names k []) (get_or (set seats i seat) k nothing_read)
 known_at names old new seats i name seat within named others here differ known k less (yes same) =
     let inside : i < length seats = omega (arith, within, known.many) in
     let it : get_or (set seats i seat) k nothing_read ≡ seat = ap (λ j. get_or (set seats i seat) j nothing_read) same ∙ get_or-set_same seats i seat nothing_read inside in
     let name_is : name ≡ get_or names k [] = named ∙ ap (λ j. get_or names j []) (sym same) in
-    let was : HoldsPrefix old name (get_or seats i nothing_read).ids = subst (λ n. HoldsPrefix old n (get_or seats i nothing_read).ids) (sym named) (known.each i within) in
-    subst (λ n. HoldsPrefix new n (get_or (set seats i seat) k nothing_read).ids) name_is (subst (λ (f : Followed). HoldsPrefix new name f.ids) (sym it) (here was))
+    let was : KnowsRows old name (get_or seats i nothing_read) = subst (λ n. KnowsRows old n (get_or seats i nothing_read)) (sym named) (known.each i within) in
+    subst (λ n. KnowsRows new n (get_or (set seats i seat) k nothing_read)) name_is (subst (λ (f : Copying). KnowsRows new name f) (sym it) (here was))
 known_at names old new seats i name seat within named others here differ known k less (no away) =
     let it : get_or (set seats i seat) k nothing_read ≡ get_or seats k nothing_read = get_or-set_other seats i k seat nothing_read away in
     let apart : name ≢ get_or names k [] = λ is. away (sym (differ i k within less (sym named ∙ is))) in
     let rows : log_of (get_or names k []) new ≡ log_of (get_or names k []) old = others (get_or names k []) apart in
-    subst (λ (f : Followed). HoldsPrefix new (get_or names k []) f.ids) (sym it)
-    (subst (λ (log : List Op). IsPrefix (operation_ids log) (get_or seats k nothing_read).ids) (sym rows) (known.each k less))
+    let before = known.each k less in
+    subst (λ (f : Copying). KnowsRows new (get_or names k []) f) (sym it) (record {
+      prefix = subst (λ (log : List Op). IsPrefix (operation_ids log) (get_or seats k nothing_read).ids) (sym rows) before.prefix;
+      stored = before.stored ∙ ap operation_ids (sym rows);
+    })
 
 -- up to a fault of the store
-pub known_behind : {A : Type 0} (names : List (List ℕ)) (old new : List Doc) (seats : List Followed) (i : ℕ) (name : List ℕ) (was seat : Followed) → i < length names → i < length seats
+pub known_behind : {A : Type 0} (names : List (List ℕ)) (old new : List Doc) (seats : List Copying) (i : ℕ) (name : List ℕ) (was seat : Copying) → i < length names → i < length seats
     → name ≡ get_or names i [] → was ≡ get_or seats i was → A ⊎ ((other : List ℕ) → name ≢ other → log_of other new ≡ log_of other old)
-    → A ⊎ (HoldsPrefix old name was.ids → HoldsPrefix new name seat.ids) → A ⊎ StaysKnown names old seats new (set seats i seat)
+    → A ⊎ (KnowsRows old name was → KnowsRows new name seat) → A ⊎ StaysKnown names old seats new (set seats i seat)
 known_behind names old new seats i name was seat within inside named read (inl store) here = inl store
 known_behind names old new seats i name was seat within inside named read (inr others) (inl store) = inl store
 known_behind names old new seats i name was seat within inside named read (inr others) (inr here) =
     let it : was ≡ get_or seats i nothing_read = read ∙ get_or_default seats i was nothing_read inside in
-    let there : HoldsPrefix old name (get_or seats i nothing_read).ids → HoldsPrefix new name seat.ids = subst (λ (f : Followed). HoldsPrefix old name f.ids → HoldsPrefix new name seat.ids) it here in
+    let there : KnowsRows old name (get_or seats i nothing_read) → KnowsRows new name seat = subst (λ (f : Copying). KnowsRows old name f → KnowsRows new name seat) it here in
     inr (λ differ known. record {
       many = length-set seats i seat ∙ known.many;
       each = λ k less. known_at names old new seats i name seat within named others there differ known k less (native.Mathlib.Decide.ℕ_discrete k i);
     })
 
 -- the seat in this place has its number
-pub number_at : (seats : List Followed) (i : ℕ) (seat : Followed) → AreNumbered seats → i < length seats → seat ≡ get_or seats i seat → seat.number ≡ i
+pub number_at : (seats : List Copying) (i : ℕ) (seat : Copying) → AreNumbered seats → i < length seats → seat ≡ get_or seats i seat → seat.number ≡ i
 number_at seats i seat numbered inside read =
-    ap (λ (f : Followed). f.number) (read ∙ get_or_default seats i seat nothing_read inside) ∙ numbered i inside
+    ap (λ (f : Copying). f.number) (read ∙ get_or_default seats i seat nothing_read inside) ∙ numbered i inside
 
-set_at : (seats : List Followed) (i : ℕ) (seat : Followed) → AreNumbered seats → seat.number ≡ i → (k : ℕ) → k < length seats → Dec (k ≡ i)
+set_at : (seats : List Copying) (i : ℕ) (seat : Copying) → AreNumbered seats → seat.number ≡ i → (k : ℕ) → k < length seats → Dec (k ≡ i)
     → (get_or (set seats i seat) k nothing_read).number ≡ k
 set_at seats i seat numbered is k less (yes same) =
     let inside : i < length seats = omega (arith, less, same) in
-    ap (λ j. (get_or (set seats i seat) j nothing_read).number) same ∙ (ap (λ (f : Followed). f.number) (get_or-set_same seats i seat nothing_read inside) ∙ (is ∙ sym same))
-set_at seats i seat numbered is k less (no away) = ap (λ (f : Followed). f.number) (get_or-set_other seats i k seat nothing_read away) ∙ numbered k less
+    ap (λ j. (get_or (set seats i seat) j nothing_read).number) same ∙ (ap (λ (f : Copying). f.number) (get_or-set_same seats i seat nothing_read inside) ∙ (is ∙ sym same))
+set_at seats i seat numbered is k less (no away) = ap (λ (f : Copying). f.number) (get_or-set_other seats i k seat nothing_read away) ∙ numbered k less
 
-pub numbered_set : (seats : List Followed) (i : ℕ) (seat : Followed) → AreNumbered seats → seat.number ≡ i → AreNumbered (set seats i seat)
+pub numbered_set : (seats : List Copying) (i : ℕ) (seat : Copying) → AreNumbered seats → seat.number ≡ i → AreNumbered (set seats i seat)
 numbered_set seats i seat numbered is = λ k less.
     let inside : k < length seats = omega (arith, less, length-set seats i seat) in
     set_at seats i seat numbered is k inside (native.Mathlib.Decide.ℕ_discrete k i)
 
-push_at : (seats : List Followed) (seat : Followed) → AreNumbered seats → seat.number ≡ length seats → (k : ℕ) → k < length (seats ++ seat ∷ []) → Dec (k ≡ length seats)
+push_at : (seats : List Copying) (seat : Copying) → AreNumbered seats → seat.number ≡ length seats → (k : ℕ) → k < length (seats ++ seat ∷ []) → Dec (k ≡ length seats)
     → (get_or (seats ++ seat ∷ []) k nothing_read).number ≡ k
 push_at seats seat numbered is k less (yes same) =
-    ap (λ (f : Followed). f.number) (get_or_push seats seat nothing_read k (sym same)) ∙ (is ∙ sym same)
+    ap (λ (f : Copying). f.number) (get_or_push seats seat nothing_read k (sym same)) ∙ (is ∙ sym same)
 push_at seats seat numbered is k less (no away) =
     let inside : k < length seats = omega (arith, less, length_push seats seat, away) in
-    ap (λ (f : Followed). f.number) (get_or_append_left seats (seat ∷ []) nothing_read k inside) ∙ numbered k inside
+    ap (λ (f : Copying). f.number) (get_or_append_left seats (seat ∷ []) nothing_read k inside) ∙ numbered k inside
 
-pub numbered_push : (seats : List Followed) (seat : Followed) → AreNumbered seats → seat.number ≡ length seats → AreNumbered (seats ++ seat ∷ [])
+pub numbered_push : (seats : List Copying) (seat : Copying) → AreNumbered seats → seat.number ≡ length seats → AreNumbered (seats ++ seat ∷ [])
 numbered_push seats seat numbered is = λ k less. push_at seats seat numbered is k less (native.Mathlib.Decide.ℕ_discrete k (length seats))
 
 -- ---- one copying after another
 
-pub stays_known : (names : List (List ℕ)) (old mid new : List Doc) (before between after : List Followed) → StaysKnown names old before mid between → StaysKnown names mid between new after
+pub stays_known : (names : List (List ℕ)) (old mid new : List Doc) (before between after : List Copying) → StaysKnown names old before mid between → StaysKnown names mid between new after
     → StaysKnown names old before new after
 stays_known names old mid new before between after first next = λ differ known. next differ (first differ known)
 
-pub stays_until : {A : Type 0} (names : List (List ℕ)) (old mid new : List Doc) (before between after : List Followed) → StaysKnown names old before mid between
+pub stays_until : {A : Type 0} (names : List (List ℕ)) (old mid new : List Doc) (before between after : List Copying) → StaysKnown names old before mid between
     → A ⊎ StaysKnown names mid between new after → A ⊎ StaysKnown names old before new after
 stays_until names old mid new before between after first (inl store) = inl store
 stays_until names old mid new before between after first (inr next) = inr (stays_known names old mid new before between after first next)
+
+-- what is kept over one call, and up to a fault over the next
+pub then_until : {A P Q R : Type 0} → (P → Q) → A ⊎ (Q → R) → A ⊎ (P → R)
+then_until first (inl fault) = inl fault
+then_until first (inr next) = inr (λ p. next (first p))
 
 -- what holds up to a fault of the store, of a call that returned another value
 pub same_fault : {X Y A : Type 0} (r : Result Y Fault) (e : Fault) → r ≡ Err e → (◌≡◌ {A = Result X Fault} (Err e) (Err Store)) ⊎ A → (r ≡ Err Store) ⊎ A
@@ -175,7 +211,7 @@ no_store {X = X} r lacked (inl store) = let both : ◌≡◌ {A = Result X Fault
 no_store r lacked (inr a) = a
 
 -- the same documents
-pub stays_named : {A : Type 0} (names shelved : List (List ℕ)) (old new : List Doc) (before after : List Followed) → names ≡ shelved → A ⊎ StaysKnown names old before new after
+pub stays_named : {A : Type 0} (names shelved : List (List ℕ)) (old new : List Doc) (before after : List Copying) → names ≡ shelved → A ⊎ StaysKnown names old before new after
     → A ⊎ StaysKnown shelved old before new after
 stays_named names shelved old new before after same (inl store) = inl store
 stays_named names shelved old new before after same (inr stays) = inr (subst (λ ns. StaysKnown ns old before new after) same stays)
@@ -190,40 +226,43 @@ book_at number (first ∷ books) are (suc k) book less is =
     let later : book.number ≡ suc number + k = book_at (suc number) books are.1 k book (omega arith) is in omega (arith, later)
 
 -- the book in this place has the number of the seat there
-pub same_number : (books seats : List Followed) (i : ℕ) (book seat : Followed) → AreBooksFrom 0 books → AreNumbered seats → i < length books → i < length seats → book ≡ get_or books i book
+pub same_number : (books : List Followed) (seats : List Copying) (i : ℕ) (book : Followed) (seat : Copying) → AreBooksFrom 0 books → AreNumbered seats → i < length books → i < length seats → book ≡ get_or books i book
     → seat ≡ get_or seats i seat → book.number ≡ seat.number
 same_number books seats i book seat are numbered less inside book_is seat_is =
     let first : book.number ≡ 0 + i = book_at 0 books are i book less book_is in
     omega (arith, first, number_at seats i seat numbered inside seat_is)
 
-pub same_ids : (books seats : List Followed) (i : ℕ) (book seat : Followed) → i < length books → i < length seats → book ≡ get_or books i book → seat ≡ get_or seats i seat → book.ids ≡ seat.ids
-    → (get_or books i nothing_read).ids ≡ (get_or seats i nothing_read).ids
+pub same_ids : (books : List Followed) (seats : List Copying) (i : ℕ) (book : Followed) (seat : Copying) → i < length books → i < length seats → book ≡ get_or books i book → seat ≡ get_or seats i seat → book.ids ≡ seat.ids
+    → (get_or books i no_book).ids ≡ (get_or seats i nothing_read).ids
 same_ids books seats i book seat less inside book_is seat_is agreed =
-    sym (ap (λ (f : Followed). f.ids) (book_is ∙ get_or_default books i book nothing_read less)) ∙ (agreed ∙ ap (λ (f : Followed). f.ids) (seat_is ∙ get_or_default seats i seat nothing_read inside))
+    sym (ap (λ (f : Followed). f.ids) (book_is ∙ get_or_default books i book no_book less)) ∙ (agreed ∙ ap (λ (f : Copying). f.ids) (seat_is ∙ get_or_default seats i seat nothing_read inside))
 
-pub agreed_more : (books seats : List Followed) (i : ℕ) → (get_or books i nothing_read).ids ≡ (get_or seats i nothing_read).ids
-    → ((k : ℕ) → k < i → (get_or books k nothing_read).ids ≡ (get_or seats k nothing_read).ids)
-    → (k : ℕ) → k < i + 1 → (get_or books k nothing_read).ids ≡ (get_or seats k nothing_read).ids
-agreed_more books seats i here before = λ k less. below_more (λ j. (get_or books j nothing_read).ids ≡ (get_or seats j nothing_read).ids) i before here k less
+pub agreed_more : (books : List Followed) (seats : List Copying) (i : ℕ) → (get_or books i no_book).ids ≡ (get_or seats i nothing_read).ids
+    → ((k : ℕ) → k < i → (get_or books k no_book).ids ≡ (get_or seats k nothing_read).ids)
+    → (k : ℕ) → k < i + 1 → (get_or books k no_book).ids ≡ (get_or seats k nothing_read).ids
+agreed_more books seats i here before = λ k less. below_more (λ j. (get_or books j no_book).ids ≡ (get_or seats j nothing_read).ids) i before here k less
 
 -- ---- a start
 
 -- the seats of one document more, which were just opened there
-pub one_seated : (docs : List Doc) (names : List (Bor (List ℕ))) (i : ℕ) (name : Bor (List ℕ)) (seats new : List Followed) (seat : Followed) → i < length names
+pub one_seated : (docs : List Doc) (names : List (Bor (List ℕ))) (i : ℕ) (name : Bor (List ℕ)) (seats new : List Copying) (seat : Copying) → i < length names
     → length seats ≡ i → new ≡ seats ++ seat ∷ [] → seat.ids ≡ operation_ids (log_of (get_or names i name).now docs)
-    → ((k : ℕ) → k < i → HoldsPrefix docs (get_or names k name).now (get_or seats k nothing_read).ids)
-    → (k : ℕ) → k < i + 1 → HoldsPrefix docs (get_or names k name).now (get_or new k nothing_read).ids
-one_seated docs names i name seats new seat within long pushed read before k less = go (native.Mathlib.Decide.ℕ_discrete k i)
+    → seat.stored ≡ operation_ids (log_of (get_or names i name).now docs)
+    → ((k : ℕ) → k < i → KnowsRows docs (get_or names k name).now (get_or seats k nothing_read))
+    → (k : ℕ) → k < i + 1 → KnowsRows docs (get_or names k name).now (get_or new k nothing_read)
+one_seated docs names i name seats new seat within long pushed read stored before k less = go (native.Mathlib.Decide.ℕ_discrete k i)
   where
-    go : Dec (k ≡ i) → HoldsPrefix docs (get_or names k name).now (get_or new k nothing_read).ids
+    go : Dec (k ≡ i) → KnowsRows docs (get_or names k name).now (get_or new k nothing_read)
     go (yes same) =
         let it : get_or new k nothing_read ≡ seat = ap (λ fs. get_or fs k nothing_read) pushed ∙ get_or_push seats seat nothing_read k (long ∙ sym same) in
         let ids : (get_or new k nothing_read).ids ≡ operation_ids (log_of (get_or names k name).now docs) =
-        ap (λ (f : Followed). f.ids) it ∙ (read ∙ ap (λ j. operation_ids (log_of (get_or names j name).now docs)) (sym same)) in
-        ([], ids ∙ sym (append-nil (operation_ids (log_of (get_or names k name).now docs))))
+        ap (λ (f : Copying). f.ids) it ∙ (read ∙ ap (λ j. operation_ids (log_of (get_or names j name).now docs)) (sym same)) in record {
+          prefix = ([], ids ∙ sym (append-nil (operation_ids (log_of (get_or names k name).now docs))));
+          stored = ap (λ (f : Copying). f.stored) it ∙ (stored ∙ ap (λ j. operation_ids (log_of (get_or names j name).now docs)) (sym same));
+        }
     go (no away) =
         let inside : k < length seats = omega (arith, less, long, away) in
         let early : k < i = omega (arith, inside, long) in
         let it : get_or new k nothing_read ≡ get_or seats k nothing_read =
         ap (λ fs. get_or fs k nothing_read) pushed ∙ get_or_append_left seats (seat ∷ []) nothing_read k inside in
-        subst (λ (f : Followed). HoldsPrefix docs (get_or names k name).now f.ids) (sym it) (before k early)
+        subst (λ (f : Copying). KnowsRows docs (get_or names k name).now f) (sym it) (before k early)

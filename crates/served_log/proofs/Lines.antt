@@ -5,13 +5,13 @@ use Rattle.std.specs.Borrow.{Bor}
 use Rattle.std.specs.Io.KnownBytes.{Appends}
 use Rattle.session_rules.specs.declared.Ending.{Ending}
 use Rattle.doc_rules.specs.Seats.{Seat}
-use Rattle.locked_doc.specs.Followed.{Followed}
+use Rattle.locked_doc.specs.Followed.{Followed, Copying}
 use Rattle.locked_doc.specs.declared.gather.Totals.{Totals}
 use Rattle.server_core.specs.Attended.{AreServed, Bytes}
 use Rattle.server_core.specs.Sums.{AreTotalsFrom, ids_read}
 use Rattle.share_ledger.specs.Begun.{Origin}
 use Rattle.stored_log.specs.Docs.{Doc}
-use Rattle.served_log.specs.Known.{AllDiffer, AreKnown, nothing_read}
+use Rattle.served_log.specs.Known.{AllDiffer, AreKnown, no_book, nothing_read}
 use Rattle.served_log.specs.Totals.{AreStored, ServesSessions, total_line, total_lines}
 use Rattle.served_log.proofs.Logged.{books_long, known_read, logged_from}
 
@@ -32,9 +32,9 @@ of_ok P x is holds = subst (λ r. IfOk r P) is holds
 
 -- what sessions did over documents of these names, and what was written of it
 pub serves : {C : Type 0} (bytes : C → Bytes) (follows : C → C → Type 0) (origin : ℕ → Origin) (last : List Doc) (shelved names : List (List ℕ)) (connections : List C)
-    (endings : List (List (Option Ending))) (given : List (List (Option Seat))) (books seats : List Followed) (totals : List Totals) (out_before out_after : Option (List ℕ))
+    (endings : List (List (Option Ending))) (given : List (List (Option Seat))) (books : List Followed) (seats : List Copying) (totals : List Totals) (out_before out_after : Option (List ℕ))
     → shelved ≡ names → AreServed origin shelved bytes follows connections endings given → AreTotalsFrom origin 0 given (ids_read books) totals → length totals ≡ length shelved
-    → ((k : ℕ) → k < length books → k < length seats → (get_or books k nothing_read).ids ≡ (get_or seats k nothing_read).ids) → (AllDiffer names → AreKnown last names seats)
+    → ((k : ℕ) → k < length books → k < length seats → (get_or books k no_book).ids ≡ (get_or seats k nothing_read).ids) → (AllDiffer names → AreKnown last names seats)
     → AreStored last names totals → Appends out_before out_after (total_lines names totals) → ServesSessions bytes follows origin last names connections out_before out_after
 serves bytes follows origin last shelved names connections endings given books seats totals out_before out_after same served added many agreed known stored written =
     let each : length totals ≡ length names = many ∙ ap length same in record {

@@ -5,11 +5,11 @@ use Rattle.share_ledger.specs.Begun.{Origin}
 use Rattle.doc_api.specs.Words.{Id, Op}
 use Rattle.doc_rules.specs.Seats as seats
 use Rattle.doc_rules.specs.Seats.{Seat, operation_ids}
-use Rattle.locked_doc.specs.Followed.{Followed}
+use Rattle.locked_doc.specs.Followed.{Followed, Copying}
 use Rattle.locked_doc.specs.declared.gather.Totals.{Totals}
 use Rattle.server_core.specs.Sums.{AreTotals, AreTotalsFrom, ids_read, later_ends}
 use Rattle.stored_log.specs.Docs.{Doc, log_of}
-use Rattle.served_log.specs.Known.{AllDiffer, AreKnown, HoldsPrefix, nothing_read}
+use Rattle.served_log.specs.Known.{AllDiffer, AreKnown, HoldsPrefix, no_book, nothing_read}
 use Rattle.served_log.specs.Totals.{AreLoggedFrom, AreStored, IsStored}
 use Rattle.served_log.proofs.Knowing.{prefix_trans, prefix_whole}
 
@@ -45,12 +45,12 @@ books_long origin number sessions (book ∷ books) [] added = absurd added
 books_long origin number sessions (book ∷ books) (t ∷ totals) added = ap suc (books_long origin (suc number) (map later_ends sessions) books totals added.1)
 
 -- what books have that agree with seats
-pub known_read : (last : List Doc) (names : List (List ℕ)) (books seats : List Followed) → length books ≡ length names
-    → ((k : ℕ) → k < length books → k < length seats → (get_or books k nothing_read).ids ≡ (get_or seats k nothing_read).ids) → AreKnown last names seats
+pub known_read : (last : List Doc) (names : List (List ℕ)) (books : List Followed) (seats : List Copying) → length books ≡ length names
+    → ((k : ℕ) → k < length books → k < length seats → (get_or books k no_book).ids ≡ (get_or seats k nothing_read).ids) → AreKnown last names seats
     → (k : ℕ) → k < length names → HoldsPrefix last (get_or names k []) (get_or (ids_read books) k [])
 known_read last names books seats many agreed known k less =
     let inside : k < length books = omega (arith, less, many) in
     let there : k < length seats = omega (arith, less, known.many) in
     let same : (get_or seats k nothing_read).ids ≡ get_or (ids_read books) k [] =
-    sym (agreed k inside there) ∙ sym (get_or-map (λ (book : Followed). book.ids) books k nothing_read [] inside) in
-    subst (λ ids. HoldsPrefix last (get_or names k []) ids) same (known.each k less)
+    sym (agreed k inside there) ∙ sym (get_or-map (λ (book : Followed). book.ids) books k no_book [] inside) in
+    subst (λ ids. HoldsPrefix last (get_or names k []) ids) same (known.each k less).prefix

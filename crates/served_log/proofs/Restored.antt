@@ -6,8 +6,8 @@ use Rattle.share_ledger.specs.Begun.{Origin, MayBeNamed}
 use Rattle.doc_rules.specs.Document.{Document, new_document}
 use Rattle.stored_log.specs.Docs.{Doc, log_of}
 use Rattle.locked_doc.specs.Locked.{Locked}
-use Rattle.locked_doc.specs.Followed.{Followed}
-use Rattle.served_log.specs.Known.{AreKnown, HoldsPrefix, nothing_read}
+use Rattle.locked_doc.specs.Followed.{Copying}
+use Rattle.served_log.specs.Known.{AreKnown, KnowsRows, nothing_read}
 use Rattle.served_log.specs.Restored.{origin_at}
 
 -- in the place of a name where there is none
@@ -39,11 +39,11 @@ pub named_here : (docs : List Doc) (names : List (List ℕ)) (replica : List ℕ
 named_here docs names replica origin number are = subst (λ (f : ℕ → Origin). MayBeNamed (f number) replica) (sym are) refl
 
 -- the seats of all documents, each of which was opened over what is stored
-pub all_seated : (kept : List Doc) (names : List (Bor (List ℕ))) (i : ℕ) (seats : List Followed) → i ≡ length names → length seats ≡ i
-    → ((k : ℕ) → k < i → HoldsPrefix kept (get_or names k no_name).now (get_or seats k nothing_read).ids) → AreKnown kept (map (λ s. s.now) names) seats
+pub all_seated : (kept : List Doc) (names : List (Bor (List ℕ))) (i : ℕ) (seats : List Copying) → i ≡ length names → length seats ≡ i
+    → ((k : ℕ) → k < i → KnowsRows kept (get_or names k no_name).now (get_or seats k nothing_read)) → AreKnown kept (map (λ s. s.now) names) seats
 all_seated kept names i seats past long known = record {
   many = long ∙ (past ∙ sym (length-map names (λ (s : Bor (List ℕ)). s.now)));
   each = λ k less.
       let inside : k < length names = omega (arith, less, length-map names (λ (s : Bor (List ℕ)). s.now)) in
-      subst (λ n. HoldsPrefix kept n (get_or seats k nothing_read).ids) (sym (get_or-map (λ (s : Bor (List ℕ)). s.now) names k no_name [] inside)) (known k (omega (arith, inside, past)));
+      subst (λ n. KnowsRows kept n (get_or seats k nothing_read)) (sym (get_or-map (λ (s : Bor (List ℕ)). s.now) names k no_name [] inside)) (known k (omega (arith, inside, past)));
 }

@@ -4,7 +4,7 @@ use Rattle.std.specs.Prelude.{◌⊎◌, Option, Some, None}
 use Rattle.share_ledger.specs.Begun.{Origin}
 use Rattle.doc_api.specs.Words.{Op}
 use Rattle.doc_rules.specs.Document.{Document, IsSound, tail}
-use Rattle.locked_doc.specs.Followed.{Followed}
+use Rattle.locked_doc.specs.Followed.{Copying}
 use Rattle.locked_doc.specs.Locked.{Begins}
 use Rattle.stored_log.specs.Docs.{Doc, IsBatch, add_batch, log_of}
 use Rattle.stored_log.specs.Limits.{most_rows}
@@ -66,9 +66,10 @@ pub record AddsBatches (origin : ℕ → Origin) (names : List (List ℕ)) (old 
 -- What a copier made of a stored log, beside documents of these names, and the fault that ended it,
 -- if one did. Without a fault the log has more batches, and still works: of all operations, or
 -- where memory lacked to the end of some. What it has of each document stays a prefix of what the
--- copier read there, in seats that had read so much before. Once it has failed nothing is known.
+-- copier read there, in seats that had read so much before, and just that counts as stored. Once it
+-- has failed nothing is known.
 pub record HasCopied (origin : ℕ → Origin) (names : List (List ℕ)) (old new : LogState)
-    (before after : List Followed) (fault : Option Fault) : Type 0 where
+    (before after : List Copying) (fault : Option Fault) : Type 0 where
   pub copied : fault ≡ None → AddsBatches origin names old new
   pub works : fault ≡ None → old.has_failed ≡ false → new.has_failed ≡ false
   pub grown : new.has_failed ≡ false → AddsBatches origin names old new

@@ -6,4 +6,5 @@ pub mod Stored
 pub mod Unwritten
 pub mod Batches
 pub mod Known
+pub mod Kept
 pub mod Restarts

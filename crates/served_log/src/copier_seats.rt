@@ -1,7 +1,7 @@
 //! The handles by which a copier reads documents.
 ghost use Rattle.std.specs.Prelude.{◌≡◌, ◌<◌, ℕ, length, get_or};
 ghost use Rattle.server_core.specs.Sums.{AreBooksFrom};
-ghost use Rattle.served_log.specs.Known.{nothing_read};
+ghost use Rattle.served_log.specs.Known.{no_book, nothing_read};
 
 use locked_doc::{CopierBook, CopierSeat};
 use share_ledger::Marker;
@@ -10,7 +10,7 @@ use std::marker::Model;
 use stored_log::Fault;
 
 /// The seats of a copier, one in each of some documents, in their order: each has the number of its
-/// place. Contracts see what the copier has read of each document.
+/// place. Contracts see what the copier has read of each document, and what counts as stored.
 #[derive(Drop)]
 pub struct CopierSeats<M: Marker> {
     pub(crate) seats: Vec<CopierSeat<M>>,
@@ -18,10 +18,10 @@ pub struct CopierSeats<M: Marker> {
 
 impl<M: Marker> Model for CopierSeats<M> {
     ghost use Rattle.std.specs.Prelude.{List};
-    ghost use Rattle.locked_doc.specs.Followed.{Followed};
+    ghost use Rattle.locked_doc.specs.Followed.{Copying};
     ghost use Rattle.served_log.specs.Known.{AreNumbered};
 
-    ghost Value = { List Followed };
+    ghost Value = { List Copying };
 
     ghost view = { λ s. s.seats.items };
 
@@ -57,7 +57,7 @@ impl<M: Marker> CopierSeats<M> {
 fn agree_at<M: Marker>(books: &[CopierBook<M>], seats: &CopierSeats<M>, i: usize)
     requires books { AreBooksFrom 0 books.now }
     requires there { (i < length books.now) × (i < length seats.now) }
-    ensures { (get_or books.now i nothing_read).ids ≡ (get_or seats.now i nothing_read).ids }
+    ensures { (get_or books.now i no_book).ids ≡ (get_or seats.now i nothing_read).ids }
 {
     books[i].agree(&seats.seats[i]);
 }
@@ -67,7 +67,7 @@ fn agree_at<M: Marker>(books: &[CopierBook<M>], seats: &CopierSeats<M>, i: usize
 pub(crate) fn agree_each<M: Marker>(books: &[CopierBook<M>], seats: &CopierSeats<M>)
     requires { AreBooksFrom 0 books.now }
     ensures { (k : ℕ) → k < length books.now → k < length seats.now
-        → (get_or books.now k nothing_read).ids ≡ (get_or seats.now k nothing_read).ids }
+        → (get_or books.now k no_book).ids ≡ (get_or seats.now k nothing_read).ids }
 {
     let both = books.len().min(seats.seats.len());
     for i in 0..both {

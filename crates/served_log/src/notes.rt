@@ -10,7 +10,7 @@ use server_notes::{
     note_nearly_full, note_recovered, note_restored, note_still_failing, note_stopped,
 };
 use std::time::Clock;
-use stored_log::{StoredDoc, StoredFault, StoredLog, find};
+use stored_log::{StoredFault, StoredLog};
 
 // So many operations of those that a document may have.
 fn operations(count: usize) -> Fill {
@@ -46,16 +46,23 @@ fn warn_if_crossed<R: Log + Clock>(rt: &R, name: &str, fill: Fill, more: usize, 
     }
 }
 
-// Notes the document at this place as it is stored. Without memory for its front the note is lost.
-fn note_document<R: Log + Clock>(rt: &R, file: &FileState, place: usize, document: &StoredDoc) {
-    let Ok(front) = document.front() else {
+// Notes the document of this name at this place as it is stored. Without memory for its front the
+// note is lost.
+fn note_document<R: Log + Clock, L: StoredLog>(
+    rt: &R,
+    file: &FileState,
+    stored: &L,
+    place: usize,
+    name: &str,
+) {
+    let (Ok(rows), Ok(front)) = (stored.rows(name), stored.front(name)) else {
         return;
     };
     file.note_replicas(place, front.len());
-    let (logged, makers) = (operations(document.len()), replicas(front.len()));
-    note_restored(rt, document.name(), logged, makers);
-    warn_if_full(rt, document.name(), logged, "operations");
-    warn_if_full(rt, document.name(), makers, "replicas");
+    let (logged, makers) = (operations(rows), replicas(front.len()));
+    note_restored(rt, name, logged, makers);
+    warn_if_full(rt, name, logged, "operations");
+    warn_if_full(rt, name, makers, "replicas");
 }
 
 // Notes each of these documents as it is stored, in this order.
@@ -65,14 +72,8 @@ pub(crate) fn note_documents<R: Log + Clock, L: StoredLog>(
     stored: &L,
     names: &[&str],
 ) {
-    let Ok(docs) = stored.docs() else {
-        return;
-    };
     for place in 0..names.len() {
-        match find(docs, names[place]) {
-            Some(document) => note_document(rt, file, place, document),
-            None => note_restored(rt, names[place], operations(0), replicas(0)),
-        }
+        note_document(rt, file, stored, place, names[place]);
     }
 }
 
@@ -118,24 +119,18 @@ impl<R: Log + Clock, D: Deadline> CopyObserver for CopyLogger<'_, R, D> {
         self.file.took()
     }
 
-    fn added(&self, document: &StoredDoc, entries: &[Operation]) {
+    fn added<L: StoredLog>(&self, stored: &L, name: &str, rows: usize, entries: &[Operation]) {
         self.file.end(self.rt);
-        let logged = operations(document.len());
-        warn_if_crossed(
-            self.rt,
-            document.name(),
-            logged,
-            entries.len(),
-            "operations",
-        );
+        let logged = operations(rows);
+        warn_if_crossed(self.rt, name, logged, entries.len(), "operations");
         let makers = entries.iter().filter(|entry| is_first(entry)).count();
         if makers == 0 {
             return;
         }
-        if let Ok(front) = document.front() {
-            self.note_replicas(document.name(), front.len());
+        if let Ok(front) = stored.front(name) {
+            self.note_replicas(name, front.len());
             let all = replicas(front.len());
-            warn_if_crossed(self.rt, document.name(), all, makers, "replicas");
+            warn_if_crossed(self.rt, name, all, makers, "replicas");
         }
     }
 

@@ -1,6 +1,6 @@
 //! What a copier reports while it runs.
 use op_core::Operation;
-use stored_log::{StoredDoc, StoredFault};
+use stored_log::{StoredFault, StoredLog};
 
 /// Is notified of what a copier does. The copier waits for each call, and holds no lock meanwhile.
 /// No clause says anything of it.
@@ -14,9 +14,9 @@ pub trait CopyObserver {
         0
     }
 
-    /// Called after each batch, with the document as it is stored and the entries that were just
-    /// written.
-    fn added(&self, document: &StoredDoc, entries: &[Operation]);
+    /// Called after each batch with the document's name, how many entries of it are stored now, and
+    /// those that were just written. It may ask the stored log for more.
+    fn added<L: StoredLog>(&self, stored: &L, name: &str, rows: usize, entries: &[Operation]);
 
     /// Called where memory ran out, and the copier pauses before it tries again. Nobody waits for
     /// it meanwhile. Called once until it goes on.

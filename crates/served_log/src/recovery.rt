@@ -2,8 +2,8 @@
 //! that failed.
 ghost use Rattle.std.specs.Prelude.{◌≡◌, ◌≢◌, OnOk, IfErr, Some, None, true};
 ghost use Rattle.stored_log.specs.Log.{HasBatchAgain};
+ghost use Rattle.served_log.specs.Kept.{IsKept};
 
-use crate::batch::publish_all;
 use crate::document_to_copy::DocumentToCopy;
 use crate::observer::CopyObserver;
 use op_core::Operation;
@@ -117,7 +117,7 @@ fn pause<M: Marker, R: Wait, T: CopyObserver>(
             break;
         }
         rest(rt);
-        release_if_due(shared, observer);
+        release_if_due(rt, shared, observer);
         if tries.is_note_due() {
             observer.still_fails(unstored(rt, shared));
         }
@@ -126,17 +126,21 @@ fn pause<M: Marker, R: Wait, T: CopyObserver>(
 }
 
 // Ends the waiting of sessions, where they wait no longer for a store that fails.
-fn release_if_due<M: Marker, T: CopyObserver>(shared: &SharedDocuments<M>, observer: &T) {
+fn release_if_due<M: Marker, R: Wait, T: CopyObserver>(
+    rt: &R,
+    shared: &SharedDocuments<M>,
+    observer: &T,
+) {
     if observer.is_awaited_no_more() {
-        shared.progress.stop();
+        shared.progress.stop(rt);
     }
 }
 
 // Ends the sessions that wait for what isn't stored, where a reply means that it is. Others wait on
 // once there are too many operations that aren't stored.
-fn hold<M: Marker>(shared: &SharedDocuments<M>) {
+fn hold<M: Marker, R: Wait>(rt: &R, shared: &SharedDocuments<M>) {
     if shared.progress.pace() == Pace::Durable {
-        shared.progress.stop();
+        shared.progress.stop(rt);
     }
 }
 
@@ -155,6 +159,7 @@ fn open_again<M: Marker, R: Wait, L: StoredLog, T: CopyObserver>(
     requires failed { (L.log stored.old).has_failed ≡ true }
     ensures ok { OnOk result
         (HasBatchAgain document.now.name.now from entries.now (L.log stored.old) (L.log stored.new)) }
+    ensures kept { OnOk result (IsKept L.StoredLog stored.new) }
     ensures err { IfErr result (λ e. (e ≡ Fault.Store) × (L.log stored.new ≡ L.log stored.old)) }
     ensures alone { (L.log stored.new).is_alone ≡ (L.log stored.old).is_alone }
 {
@@ -189,6 +194,7 @@ pub(crate) fn recover<M: Marker, R: Wait, L: StoredLog, T: CopyObserver>(
     requires failed { (L.log stored.old).has_failed ≡ true }
     ensures ok { OnOk result
         (HasBatchAgain document.now.name.now from entries.now (L.log stored.old) (L.log stored.new)) }
+    ensures kept { OnOk result (IsKept L.StoredLog stored.new) }
     ensures err { IfErr result (λ e. (e ≡ Fault.Store) × (L.log stored.new ≡ L.log stored.old)) }
     ensures alone { (L.log stored.new).is_alone ≡ (L.log stored.old).is_alone }
     // That there was a fault is not forgotten.
@@ -197,7 +203,7 @@ pub(crate) fn recover<M: Marker, R: Wait, L: StoredLog, T: CopyObserver>(
     let why = reason_of(Fault::Store, stored);
     recovery.met = Some(why);
     observer.failed(why);
-    hold(document.shared);
+    hold(rt, document.shared);
     open_again(
         rt,
         document,
@@ -207,7 +213,7 @@ pub(crate) fn recover<M: Marker, R: Wait, L: StoredLog, T: CopyObserver>(
         from,
         entries,
     )?;
-    publish_all(document.shared, stored);
+    document.shared.progress.go_on(rt);
     observer.recovered();
     Ok(())
 }

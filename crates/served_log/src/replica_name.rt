@@ -1,16 +1,14 @@
 //! The replica name of a start: NAME-E, for a new epoch E of the stored log.
 ghost use Rattle.std.specs.Prelude.{◌≡◌, ◌⊎◌, ◌≤◌, ◌↔◌, ℕ, true, false, map, IfOk, IfErr, OnOk};
 ghost use Rattle.std.specs.Prelude.{Err};
-ghost use Rattle.std.specs.List.{list_any};
 ghost use Rattle.lamport_id.specs.Name.{is_name};
-ghost use Rattle.stored_log.specs.Docs.{AreInOrder, is_by, log_of};
 ghost use Rattle.stored_log.specs.Limits.{last_epoch};
 ghost use Rattle.stored_log.specs.Log.{KeepsAll};
 ghost use Rattle.served_log.specs.Named.{IsRaised, is_known, replica_name};
 
 use lamport_id::ReplicaName;
 use std::alloc::Global;
-use stored_log::{Fault, StoredDoc, StoredLog, find};
+use stored_log::{Fault, StoredLog};
 
 // The replica name of a server of this name in this epoch. `Refused` where that is no name.
 fn replica_at(alloc: Global, name: &str, epoch: u64) -> Result<ReplicaName, Fault>
@@ -27,28 +25,19 @@ fn replica_at(alloc: Global, name: &str, epoch: u64) -> Result<ReplicaName, Faul
     }
 }
 
-// Whether the stored log has operations of the replica in the document of this name.
-fn is_known_in(docs: &[StoredDoc], name: &str, replica: &ReplicaName) -> bool
-    requires { AreInOrder docs.now }
-    ensures { result ≡ list_any (is_by replica.now) (log_of name.now docs.now) }
-{
-    match find(docs, name) {
-        Some(doc) => doc.is_maker(replica),
-        None => false,
-    }
-}
-
 // Whether the stored log has operations of the replica in one of these documents.
-fn is_known(docs: &[StoredDoc], names: &[&str], replica: &ReplicaName) -> bool
-    requires { AreInOrder docs.now }
-    ensures { result ≡ is_known replica.now docs.now (map (λ s. s.now) names.now) }
+fn is_known<L: StoredLog>(stored: &L, names: &[&str], replica: &ReplicaName) -> Result<bool, Fault>
+    ensures ok { IfOk result (λ known. known
+        ≡ is_known replica.now (L.log stored.now).docs (map (λ s. s.now) names.now)) }
+    ensures failed { result ≡ Err Fault.Store → (L.log stored.now).has_failed ≡ true }
+    ensures never_else { IfErr result (λ e. e ≡ Fault.Store) }
 {
     for name in names {
-        if is_known_in(docs, name, replica) {
-            return true;
+        if stored.has_made(name, replica)? {
+            return Ok(true);
         }
     }
-    false
+    Ok(false)
 }
 
 /// Starts a new epoch E, which it writes to the stored log, and returns the replica name
@@ -81,7 +70,8 @@ pub fn next_replica_name<L: StoredLog>(
     loop {
         let epoch = stored.epoch_up()?;
         let replica = replica_at(alloc, name, epoch)?;
-        if !is_known(stored.docs()?, documents, &replica) {
+        let known = is_known(stored, documents, &replica)?;
+        if !known {
             return Ok(replica);
         }
     }

@@ -2,6 +2,7 @@
 ghost use Rattle.std.specs.Prelude.{◌≡◌, ◌⊎◌, ◌-◌, ◌+◌, ◌≤◌, ◌++◌, ◌∷◌, [], true, length, map};
 ghost use Rattle.std.specs.Prelude.{IfOk, IfErr, OnOk, Err};
 ghost use Rattle.share_ledger.specs.Begun.{MayBeNamed};
+ghost use Rattle.share_ledger.specs.Counters.{stored_ids};
 ghost use Rattle.doc_rules.specs.Document.{new_document};
 ghost use Rattle.locked_doc.specs.Numbers.{greatest_number};
 ghost use Rattle.stored_log.specs.Docs.{log_of};
@@ -15,7 +16,7 @@ use lamport_id::ReplicaName;
 use line_proto::Name;
 use locked_doc::{CopierSeat, Ledger, LockedDoc, Shelf};
 use server_core::{Pace, Progress, SharedDocuments, Signal};
-use share_ledger::Marker;
+use share_ledger::{Marker, StoreShare};
 use std::alloc::Global;
 use stored_log::{Fault, StoredLog};
 
@@ -29,6 +30,8 @@ pub struct RestoredDocuments<M: Marker> {
     pub docs: Vec<LockedDoc<M>>,
     /// The copier's seats in them, in order.
     pub seats: CopierSeats<M>,
+    /// The sessions' halves of what is stored of them, in order.
+    pub shares: Vec<StoreShare<M>>,
     ghost as_many: { length names.items ≡ length docs.items },
 }
 
@@ -54,13 +57,14 @@ pub struct Restoring<'a, L> {
     pub seats: u16,
 }
 
-// Restores the document of this name, and opens the copier's seat there.
+// Restores the document of this name, and opens the copier's seat there. What is stored counts as
+// stored, at the seat and at the sessions' half.
 fn restore_one<M: Marker, L: StoredLog>(
     alloc: Global,
     ledger: &mut Ledger<M>,
     from: &Restoring<'_, L>,
     name: &str,
-) -> Result<(LockedDoc<M>, CopierSeat<M>), Fault>
+) -> Result<(LockedDoc<M>, CopierSeat<M>, StoreShare<M>), Fault>
     requires number { 1 ≤ greatest_number - ledger.old }
     requires begun { log_of name.now (L.log from.now.stored.now).docs ≡ (M.origin ledger.old).log }
     requires named { MayBeNamed (M.origin ledger.old) from.now.replica.now }
@@ -68,6 +72,10 @@ fn restore_one<M: Marker, L: StoredLog>(
         ≡ new_document from.now.replica.now (log_of name.now (L.log from.now.stored.now).docs) from.now.seats) }
     ensures seat { IfOk result (λ made. (made.1.number ≡ ledger.old)
         × (made.1.ids ≡ operation_ids (log_of name.now (L.log from.now.stored.now).docs))) }
+    ensures stored { IfOk result
+        (λ made. made.1.stored ≡ operation_ids (log_of name.now (L.log from.now.stored.now).docs)) }
+    ensures share { IfOk result (λ made. made.2
+        ≡ stored_ids ledger.old (operation_ids (log_of name.now (L.log from.now.stored.now).docs))) }
     ensures next { OnOk result (ledger.new ≡ ledger.old + 1) }
     ensures never_refused { IfErr result (λ e. (e ≡ Fault.Store) ⊎ (e ≡ Fault.Memory)) }
     ensures failed { result ≡ Err Fault.Store → (L.log from.now.stored.now).has_failed ≡ true }
@@ -76,10 +84,10 @@ fn restore_one<M: Marker, L: StoredLog>(
     let Ok(mut doc) = ledger.of_log(alloc, from.replica, log, from.seats) else {
         return Err(Fault::Memory);
     };
-    let Some(seat) = doc.open_copier() else {
+    let Some((seat, share)) = doc.open_copier() else {
         unreachable!();
     };
-    Ok((doc, seat))
+    Ok((doc, seat, share))
 }
 
 // Pushes the document.
@@ -93,6 +101,17 @@ fn push_doc<M: Marker>(docs: &mut Vec<LockedDoc<M>>, doc: LockedDoc<M>) -> Resul
     }
 }
 
+// Pushes the sessions' half of what is stored of a document.
+fn push_share<M: Marker>(shares: &mut Vec<StoreShare<M>>, share: StoreShare<M>) -> Result<(), Fault>
+    ensures ok { OnOk result (shares.new.items ≡ shares.old.items ++ share ∷ []) }
+    ensures err { IfErr result (λ e. e ≡ Fault.Memory) }
+{
+    match shares.push(share) {
+        Ok(()) => Ok(()),
+        Err(_) => Err(Fault::Memory),
+    }
+}
+
 // Restores the documents of these names, and opens the copier's seats there. They are the first of a
 // ledger.
 fn restore_all<M: Marker, L: StoredLog>(
@@ -100,7 +119,7 @@ fn restore_all<M: Marker, L: StoredLog>(
     ledger: &mut Ledger<M>,
     from: &Restoring<'_, L>,
     names: &[&str],
-) -> Result<(Vec<LockedDoc<M>>, CopierSeats<M>), Fault>
+) -> Result<(Vec<LockedDoc<M>>, CopierSeats<M>, Vec<StoreShare<M>>), Fault>
     requires few { length names.now ≤ greatest_number }
     requires first { ledger.old ≡ 0 }
     requires begun { M.origin
@@ -117,17 +136,19 @@ fn restore_all<M: Marker, L: StoredLog>(
 {
     let mut docs = Vec::new(alloc);
     let mut seats = CopierSeats::new(alloc);
+    let mut shares = Vec::new(alloc);
     for name in names {
-        let (doc, seat) = restore_one(alloc, ledger, from, name)?;
+        let (doc, seat, share) = restore_one(alloc, ledger, from, name)?;
         push_doc(&mut docs, doc)?;
         seats.push(seat)?;
+        push_share(&mut shares, share)?;
     }
-    Ok((docs, seats))
+    Ok((docs, seats, shares))
 }
 
 /// Restores the documents of these names from the stored log. Their entries belong to seat 0, and
-/// are noted as copied. The copier has a seat in each, and has read what is stored. They are the
-/// first documents of the ledger. The error is `Memory`, or `Store` once the stored log has failed;
+/// are noted as copied. The copier has a seat in each, and has read what is stored; just that counts
+/// as stored. They are the first documents of the ledger. The error is `Memory`, or `Store` once the stored log has failed;
 /// never `Refused`.
 pub fn restore_documents<M: Marker, L: StoredLog>(
     alloc: Global,
@@ -152,11 +173,12 @@ pub fn restore_documents<M: Marker, L: StoredLog>(
     let Ok(made) = copy_names(alloc, names) else {
         return Err(Fault::Memory);
     };
-    let (docs, seats) = restore_all(alloc, ledger, from, names)?;
+    let (docs, seats, shares) = restore_all(alloc, ledger, from, names)?;
     Ok(RestoredDocuments {
         names: made,
         docs,
         seats,
+        shares,
     })
 }
 
@@ -172,8 +194,13 @@ pub fn share_documents<M: Marker>(
     ensures pace { IfOk result (λ made. made.0.progress.pace ≡ pace) }
     ensures memory { IfErr result (λ cause. cause ≡ Refusal.NoMemory) }
 {
-    let RestoredDocuments { names, docs, seats } = restored;
-    let Ok(progress) = Progress::new(alloc, names.len(), pace) else {
+    let RestoredDocuments {
+        names,
+        docs,
+        seats,
+        shares,
+    } = restored;
+    let Ok(progress) = Progress::new(alloc, shares, pace) else {
         return Err(Refusal::NoMemory);
     };
     let mut shelf = Shelf::new(alloc);

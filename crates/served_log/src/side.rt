@@ -1,9 +1,10 @@
 //! The copier: the background task that stores what sessions log.
-ghost use Rattle.std.specs.Prelude.{◌≡◌, ◌≢◌, ◌⊎◌, OnOk, IfErr, Err, true, false, None};
+ghost use Rattle.std.specs.Prelude.{◌≡◌, ◌≢◌, ◌⊎◌, OnOk, IfErr, Err, true, false, Some, None};
 ghost use Rattle.served_log.specs.Batches.{AddsBatches, HasCopied};
 ghost use Rattle.served_log.specs.Known.{StaysKnown};
+ghost use Rattle.served_log.specs.Kept.{StaysKept};
 
-use crate::batch::{copy_each, publish_all};
+use crate::batch::copy_each;
 use crate::copier_seats::CopierSeats;
 use crate::observer::CopyObserver;
 use crate::recovery::Recovery;
@@ -111,9 +112,9 @@ fn wait_after<M: Marker, R: Wait, T: CopyObserver>(
 
 // Before a try, where memory lacked at the last look: sessions wait for the copier again. So none
 // is ended whose document's turn only comes later.
-fn wait_again<M: Marker, L: StoredLog>(shared: &SharedDocuments<M>, stored: &L, lacked: bool) {
+fn wait_again<M: Marker, R: Wait>(rt: &R, shared: &SharedDocuments<M>, lacked: bool) {
     if lacked {
-        publish_all(shared, stored);
+        shared.progress.go_on(rt);
     }
 }
 
@@ -148,20 +149,21 @@ fn look<M: Marker, R: Wait, L: StoredLog, T: CopyObserver>(
         ⊎ AddsBatches M.origin shared.now.names.items (L.log stored.old) (L.log stored.new)) }
     ensures known { (result ≡ Err Fault.Store) ⊎ StaysKnown shared.now.names.items
         (L.log stored.old).docs seats.old (L.log stored.new).docs seats.new }
+    ensures kept { (result ≡ Err Fault.Store) ⊎ StaysKept L.StoredLog stored.old stored.new }
     ensures memory { result ≢ Err Fault.Memory }
     ensures works { OnOk result ((L.log stored.old).has_failed ≡ false
         → (L.log stored.new).has_failed ≡ false) }
     ensures failed { result ≡ Err Fault.Store → (L.log stored.new).has_failed ≡ true }
     ensures alone { (L.log stored.new).is_alone ≡ (L.log stored.old).is_alone }
 {
-    wait_again(shared, stored, lacked);
+    wait_again(rt, shared, lacked);
     match copy_each(rt, shared, seats, stored, observer, recovery) {
         Ok(most) => {
             notify_going_on(observer, lacked);
             Ok(Found::Some(most))
         }
         Err(Fault::Memory) => {
-            shared.progress.stop();
+            shared.progress.stop(rt);
             notify_lack(observer, lacked);
             Ok(Found::NoMemory)
         }
@@ -192,6 +194,7 @@ pub fn keep_up<M: Marker, R: Wait, L: StoredLog, T: CopyObserver>(
         → (L.log stored.new).has_failed ≡ false) }
     ensures known { (result ≡ Err Fault.Store) ⊎ StaysKnown shared.now.names.items
         (L.log stored.old).docs seats.old (L.log stored.new).docs seats.new }
+    ensures kept { (result ≡ Err Fault.Store) ⊎ StaysKept L.StoredLog stored.old stored.new }
     ensures memory { result ≢ Err Fault.Memory }
     ensures failed { result ≡ Err Fault.Store → (L.log stored.new).has_failed ≡ true }
     ensures alone { (L.log stored.new).is_alone ≡ (L.log stored.old).is_alone }
@@ -292,10 +295,13 @@ impl<'a, M: Marker, L: StoredLog, T: CopyObserver> Copier<'a, M, L, T> {
 }
 
 impl<M: Marker, L: StoredLog, T: CopyObserver> Side<M> for Copier<'_, M, L, T> {
+    ghost use Rattle.stored_log.specs.declared.fault.Fault.TheVariants.{Store};
+
     ghost becomes = { λ names old new. (new.stored.ghost_name ≡ old.stored.ghost_name)
         × (new.seats.ghost_name ≡ old.seats.ghost_name)
         × HasCopied M.origin names (L.log old.stored.now) (L.log new.stored.now)
-        old.seats.now new.seats.now new.fault };
+        old.seats.now new.seats.now new.fault
+        × ((new.fault ≡ Some Store) ⊎ StaysKept L.StoredLog old.stored.now new.stored.now) };
 
     fn run<R: Wait>(&mut self, rt: &R, shared: &SharedDocuments<M>, sessions: u64) {
         let mut recovery = Recovery::new(sessions);
@@ -310,7 +316,7 @@ impl<M: Marker, L: StoredLog, T: CopyObserver> Side<M> for Copier<'_, M, L, T> {
         .err();
         self.met = recovery.met;
         // Nothing is copied from now on, so nobody waits for it.
-        shared.progress.stop();
+        shared.progress.stop(rt);
         notify_stopped(self.observer, &self.fault, self.stored);
     }
 }

@@ -1,10 +1,7 @@
 -- When the reply to a change may go out.
-use Rattle.std.specs.Prelude.{◌≡◌, ℕ, ◌+◌, ◌≤◌, Option, Some, None, length, if◌then◌else◌}
-use Rattle.doc_rules.specs.Document.{Document}
-use Rattle.doc_api.specs.declared.reply.Reply.{Reply}
-use Rattle.locked_doc.specs.Locked.{says_logged}
-use Rattle.server_core.specs.declared.counters.Reading.{Reading}
-use Rattle.server_core.specs.declared.debt.Owed.{Owed}
+use Rattle.std.specs.Prelude.{◌≡◌, ◌⊎◌, ℕ, ◌+◌, ◌≤◌, Bool, true, List, Option, Some, None, MatchOption}
+use Rattle.std.specs.Prelude.{slice_get}
+use Rattle.server_core.specs.declared.due.Due.{Due}
 use Rattle.server_core.specs.declared.progress.Pace.{Pace}
 use Rattle.server_core.specs.declared.progress.Pace.TheVariants.{Behind, Durable}
 
@@ -20,13 +17,23 @@ MayGo pace (Some stored) count = count ≤ stored + allowed pace
 MayGo (Behind most) None count = Unit {0}
 MayGo Durable None count = ⊥
 
--- How many of the document's operations the file must have before this reply is durable: all that
--- are logged, where it says of an operation that it is logged; else none.
-abbrev pub owed_count : Reply → Document → ℕ
-owed_count reply d = if says_logged reply then length d.replica.log else 0
+-- so many operations of the document are due, or none is asked for
+abbrev pub IsDue : List Due → ℕ → ℕ → Type 0
+IsDue dues document count =
+    (count ≡ 0)
+    ⊎ ((due : Due) × (slice_get dues document ≡ Some due) × (due.document ≡ document)
+    × (count ≤ due.count))
 
--- The reply to a change may go out for which this was owed: by what was then read of the same
--- document, or since nothing was owed.
-abbrev pub IsPaid : Pace → Owed → Option Reading → Type 0
-IsPaid pace owed (Some read) = (read.document ≡ owed.document) × MayGo pace read.stored owed.count
-IsPaid pace owed None = owed.count ≡ 0
+-- A sink waits for so many operations of the document; one that is shut lets nothing out.
+abbrev pub Waits : Bool → List Due → ℕ → ℕ → Type 0
+Waits is_shut dues document count = (is_shut ≡ true) ⊎ IsDue dues document count
+
+-- What is due may go out: by what was read last of the same document, or since nothing is due.
+abbrev pub IsPaid : Pace → Due → Type 0
+IsPaid pace due =
+    MatchOption due.last (due.count ≡ 0)
+    (λ read. (read.document ≡ due.document) × MayGo pace read.stored due.count)
+
+-- each of them may
+abbrev pub ArePaid : Pace → List Due → Type 0
+ArePaid pace dues = (i : ℕ) (due : Due) → slice_get dues i ≡ Some due → IsPaid pace due

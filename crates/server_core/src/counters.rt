@@ -1,10 +1,18 @@
-//! Of each document, how many of its operations the file has. Only this module reads and changes
-//! these counts: a `Reading` is made where one is read, and nowhere else.
-ghost use Rattle.std.specs.Prelude.{◌≡◌};
+//! Of each document, which of its operations the file has: the sessions' half of what is stored,
+//! under a lock.
+ghost use Rattle.std.specs.Prelude.{◌≡◌, ◌+◌, ◌<◌, ◌^◌, ◌++◌, length};
+ghost use Rattle.std.specs.Sync.Mutex.{mutex_guard_value};
+ghost use Rattle.doc_rules.specs.Seats.{operation_ids};
+ghost use Rattle.locked_doc.specs.Followed.{copying};
 
+use crate::locking::spin_then_lock;
+use crate::reading::Reading;
+use locked_doc::CopierSeat;
+use op_core::Operation;
+use share_ledger::{Marker, StoreShare};
 use std::alloc::{AllocError, Global};
-use std::sync::Wait;
 use std::sync::atomic::{AtomicU64, Ordering};
+use std::sync::{Mutex, MutexGuard, Wait};
 use std::time::Duration;
 
 // What a count is where nothing copies.
@@ -13,116 +21,144 @@ const NOBODY: u64 = u64::MAX;
 // After how many seconds of sleep a count is read again, if nothing wakes the session.
 const LONGEST_SLEEP: u64 = 1;
 
-/// What was read of a document: how many of its operations the file has, or none where nothing
-/// copies.
-#[derive(Clone, Copy)]
-pub struct Reading {
-    document: usize,
-    stored: Option<u64>,
-}
-
-impl Reading {
-    /// How many operations of the document the file has, or none where nothing copies.
-    pub fn stored(&self) -> Option<u64>
-        ensures { result ≡ self.now.stored }
-    {
-        self.stored
-    }
-}
-
-/// What was published of a document.
-#[derive(Clone, Copy)]
-pub struct Published {
-    document: usize,
-    rows: u64,
-    changed: bool,
-}
-
-impl Published {
-    /// Whether it was another count before.
-    pub(crate) fn changed(&self) -> bool {
-        self.changed
-    }
-}
-
-// How many operations of a document the file has.
+// What sessions know of a document: what the file has of it, and whether a copier runs.
 #[derive(Drop)]
-struct Counter {
-    // As sessions wait for it: `NOBODY` where nothing copies.
-    stored: AtomicU64,
-    // As it was last published.
+struct Known<M: Marker> {
+    share: StoreShare<M>,
+    copies: bool,
+}
+
+// Which operations of a document the file has.
+#[derive(Drop)]
+struct Counter<M: Marker> {
+    known: Mutex<Known<M>>,
+    // How many they are, for a look without the lock; `NOBODY` where nothing copies. Sessions sleep
+    // on it. It decides nothing but whether they take the lock.
+    hint: AtomicU64,
+    // How many they are, whether a copier runs or not.
     noted: AtomicU64,
 }
 
-impl Counter {
-    fn new() -> Counter {
+impl<M: Marker> Counter<M> {
+    // Of a document that will be copied.
+    fn new(share: StoreShare<M>) -> Counter<M> {
+        let count = share.count();
         Counter {
-            stored: AtomicU64::new(0),
-            noted: AtomicU64::new(0),
+            known: Mutex::new(Known {
+                share,
+                copies: true,
+            }),
+            hint: AtomicU64::new(count),
+            noted: AtomicU64::new(count),
         }
+    }
+
+    // Shows what is known to sessions that look without the lock, which is held meanwhile.
+    fn show(&self, known: &Known<M>) {
+        let count = known.share.count();
+        self.noted.store(count, Ordering::SeqCst);
+        let hint = if known.copies { count } else { NOBODY };
+        self.hint.store(hint, Ordering::SeqCst);
+    }
+
+    // Takes the lock, of the document of this number. No clause can say what a lock holds, so it
+    // looks: the share has the number of its place, so the first look finds it so.
+    fn lock<R: Wait>(&self, rt: &R, document: usize) -> MutexGuard<'_, Known<M>>
+        ensures { (mutex_guard_value result).share.number ≡ document }
+    {
+        for _ in rt.forever() {
+            let known = spin_then_lock(rt, &self.known);
+            if known.share.number() as usize == document {
+                return known;
+            }
+        }
+        unreachable!()
+    }
+
+    // Says whether a copier runs.
+    fn set_copies<R: Wait>(&self, rt: &R, copies: bool) {
+        let mut known = spin_then_lock(rt, &self.known);
+        known.copies = copies;
+        self.show(&known);
     }
 }
 
-// A count as it was read: none where nothing copies.
-fn known(count: u64) -> Option<u64> {
-    if count == NOBODY { None } else { Some(count) }
-}
-
-/// The counts of some documents.
+/// Which operations of some documents the file has.
 #[derive(Drop)]
-pub(crate) struct Counters {
+pub(crate) struct Counters<M: Marker> {
     // One for each document, in order.
-    counters: Vec<Counter>,
+    counters: Vec<Counter<M>>,
 }
 
-impl Counters {
-    // Of so many documents, of which the file has no operation.
-    pub(crate) fn new(alloc: Global, documents: usize) -> Result<Counters, AllocError> {
+impl<M: Marker> Counters<M> {
+    // Of the documents of these halves, which are in the order of the documents.
+    pub(crate) fn new(
+        alloc: Global,
+        shares: Vec<StoreShare<M>>,
+    ) -> Result<Counters<M>, AllocError> {
         let mut counters = Vec::new(alloc);
-        for _ in 0..documents {
-            counters.push(Counter::new())?;
+        for share in shares {
+            counters.push(Counter::new(share))?;
         }
         Ok(Counters { counters })
     }
 
     // Of no document. It takes no memory.
-    pub(crate) fn none(alloc: Global) -> Counters {
+    pub(crate) fn none(alloc: Global) -> Counters<M> {
         Counters {
             counters: Vec::new(alloc),
         }
     }
 
-    // Reads the count of a document. Where it has none, nothing copies.
-    pub(crate) fn read(&self, document: usize) -> Reading
-        ensures { result.document ≡ document }
+    // How many documents there are.
+    pub(crate) fn len(&self) -> usize
+        ensures { result ≡ length self.now.counters.items }
     {
-        let stored = match self.counters.get(document) {
-            Some(counter) => known(counter.stored.load(Ordering::SeqCst)),
-            None => None,
-        };
-        Reading { document, stored }
+        self.counters.len()
     }
 
-    // Says that the file has so many operations of a document.
-    pub(crate) fn publish(&self, document: usize, rows: u64) -> Published
-        ensures document { result.document ≡ document }
-        ensures rows { result.rows ≡ rows }
+    // How many operations of a document the file has, as it was shown last; none where nothing
+    // copies.
+    pub(crate) fn hint(&self, document: usize) -> Option<u64> {
+        let counter = self.counters.get(document)?;
+        let hint = counter.hint.load(Ordering::SeqCst);
+        if hint == NOBODY { None } else { Some(hint) }
+    }
+
+    // Reads what the file has of a document, under its lock. Where it has none, nothing copies.
+    pub(crate) fn read<R: Wait>(&self, rt: &R, document: usize) -> Reading
+        ensures { result.document ≡ document }
     {
-        let changed = match self.counters.get(document) {
+        match self.counters.get(document) {
             Some(counter) => {
-                counter.noted.store(rows, Ordering::SeqCst);
-                counter.stored.swap(rows, Ordering::SeqCst) != rows
+                let known = counter.lock(rt, document);
+                Reading::of(&known.share, known.copies)
             }
-            None => false,
-        };
-        Published {
-            document,
-            rows,
-            changed,
+            None => Reading::nobody(document),
         }
     }
 
-    // How many operations of a document the file had when that was last published.
+    // Says that the file has these operations of the seat's document, behind the others: adds them
+    // to both halves of what is stored.
+    pub(crate) fn publish<R: Wait>(
+        &self,
+        rt: &R,
+        seat: &mut CopierSeat<M>,
+        operations: &[Operation],
+    )
+        requires there { seat.old.number < length self.now.counters.items }
+        requires fits { length seat.old.stored + length operations.now < 2 ^ 64 }
+        ensures { seat.new ≡ copying seat.old.number seat.old.ids
+            (seat.old.stored ++ operation_ids operations.now) }
+    {
+        let document = seat.number() as usize;
+        let counter = &self.counters[document];
+        let mut known = counter.lock(rt, document);
+        seat.grow(&mut known.share, operations);
+        counter.show(&known);
+    }
+
+    // How many operations of a document the file has, whether a copier runs or not.
     pub(crate) fn noted(&self, document: usize) -> u64 {
         match self.counters.get(document) {
             Some(counter) => counter.noted.load(Ordering::SeqCst),
@@ -133,24 +169,31 @@ impl Counters {
     // Wakes who waits for a document.
     pub(crate) fn wake(&self, document: usize) {
         if let Some(counter) = self.counters.get(document) {
-            counter.stored.wake_all();
+            counter.hint.wake_all();
         }
     }
 
     // Says of all documents that nothing copies. Who waits is woken.
-    pub(crate) fn stop(&self) {
+    pub(crate) fn stop<R: Wait>(&self, rt: &R) {
         for counter in &self.counters {
-            counter.stored.store(NOBODY, Ordering::SeqCst);
-            counter.stored.wake_all();
+            counter.set_copies(rt, false);
+            counter.hint.wake_all();
         }
     }
 
-    // Sleeps until the count of the document is another than the one that was read, or for a second.
-    pub(crate) fn sleep<R: Wait>(&self, rt: &R, read: &Reading) {
-        if let Some(counter) = self.counters.get(read.document) {
-            let low = (read.stored.unwrap_or(0) & 0xffff_ffff) as u32;
+    // Says of all documents that a copier runs.
+    pub(crate) fn go_on<R: Wait>(&self, rt: &R) {
+        for counter in &self.counters {
+            counter.set_copies(rt, true);
+        }
+    }
+
+    // Sleeps until another count of the document is shown than this one, or for a second.
+    pub(crate) fn sleep<R: Wait>(&self, rt: &R, document: usize, hint: Option<u64>) {
+        if let Some(counter) = self.counters.get(document) {
+            let low = (hint.unwrap_or(0) & 0xffff_ffff) as u32;
             counter
-                .stored
+                .hint
                 .park_timeout(rt, low, Duration::from_secs(LONGEST_SLEEP));
         }
     }

@@ -20,6 +20,10 @@ impl<R: Wait> Sink for Kept<'_, R> {
 
     ghost has_failed = { λ s. s.failed };
 
+    ghost covers_none = { λ _ _. tt };
+
+    fn owe(&mut self, _document: usize, _count: u64) {}
+
     fn write_some(&mut self, bytes: &[u8]) -> Result<usize, DeviceFault> {
         let mut kept = self.bytes.lock(self.rt);
         let grown = kept.extend_from_slice(bytes);

@@ -1,10 +1,16 @@
 //! How far the file is, for sessions that wait for it before they reply.
-ghost use Rattle.std.specs.Prelude.{◌≡◌, ◌≤◌, ◌<◌, ◌+◌, None, MatchOption, IfOk, IfSome};
-ghost use Rattle.std.specs.Prelude.{IsTrue, false};
+ghost use Rattle.std.specs.Prelude.{◌≡◌, ◌≤◌, ◌<◌, ◌+◌, ◌^◌, ◌++◌, None, MatchOption, IfOk, IfSome};
+ghost use Rattle.std.specs.Prelude.{IsTrue, false, length};
+ghost use Rattle.doc_rules.specs.Seats.{operation_ids};
+ghost use Rattle.locked_doc.specs.Followed.{copying};
 ghost use Rattle.server_core.specs.Pacing.{MayGo, allowed};
 
-use crate::counters::{Counters, Published, Reading};
+use crate::counters::Counters;
+use crate::reading::Reading;
 use crate::signal::Signal;
+use locked_doc::CopierSeat;
+use op_core::Operation;
+use share_ledger::{Marker, StoreShare};
 use std::alloc::{AllocError, Global};
 use std::sync::Wait;
 use std::sync::atomic::{AtomicU64, Ordering};
@@ -32,7 +38,7 @@ enum Turn {
 }
 
 // Whether the file has all but the allowed ones of so many operations.
-fn has_enough(pace: Pace, stored: u64, count: u64) -> bool
+pub(crate) fn has_enough(pace: Pace, stored: u64, count: u64) -> bool
     ensures yes { IsTrue result → count ≤ stored + allowed pace }
     ensures no { result ≡ false → stored + allowed pace < count }
 {
@@ -80,12 +86,12 @@ fn sleeps_after(took: u64) -> u64 {
         .max(LEAST_SLEEPS)
 }
 
-/// Of each document, how many of its operations the file has. A copier says so, and sessions wait
+/// Of each document, which of its operations the file has. A copier says so, and sessions wait
 /// for it. They hold no lock meanwhile.
 #[derive(Drop)]
-pub struct Progress {
+pub struct Progress<M: Marker> {
     pace: Pace,
-    counters: Counters,
+    counters: Counters<M>,
     // How many sessions wait.
     waiting: AtomicU64,
     // How often a session began to wait, modulo 2^64.
@@ -96,17 +102,22 @@ pub struct Progress {
     wanted: AtomicU64,
 }
 
-impl Progress {
-    /// Of so many documents, of each of which a copier will say how many operations the file has.
-    pub fn new(alloc: Global, documents: usize, pace: Pace) -> Result<Progress, AllocError>
+impl<M: Marker> Progress<M> {
+    /// Of the documents of these halves, in the order of the documents. Of each a copier will say
+    /// what the file has.
+    pub fn new(
+        alloc: Global,
+        shares: Vec<StoreShare<M>>,
+        pace: Pace,
+    ) -> Result<Progress<M>, AllocError>
         ensures pace { IfOk result (λ p. p.pace ≡ pace) }
     {
-        let counters = Counters::new(alloc, documents)?;
+        let counters = Counters::new(alloc, shares)?;
         Ok(Progress::over(pace, counters))
     }
 
     // Over these counts, with nobody who waits.
-    fn over(pace: Pace, counters: Counters) -> Progress
+    fn over(pace: Pace, counters: Counters<M>) -> Progress<M>
         ensures pace { result.pace ≡ pace }
     {
         Progress {
@@ -120,7 +131,7 @@ impl Progress {
     }
 
     /// Where nothing copies, and nobody waits. It takes no memory.
-    pub fn none(alloc: Global) -> Progress {
+    pub fn none(alloc: Global) -> Progress<M> {
         Progress::over(Pace::Behind(0), Counters::none(alloc))
     }
 
@@ -131,22 +142,31 @@ impl Progress {
         self.pace
     }
 
-    /// Says that the file has so many operations of the document of this number.
-    pub fn publish(&self, document: usize, rows: u64) -> Published
-        ensures document { result.document ≡ document }
-        ensures rows { result.rows ≡ rows }
+    /// How many documents it has.
+    pub fn documents(&self) -> usize
+        ensures { result ≡ length self.now.counters.counters.items }
+    {
+        self.counters.len()
+    }
+
+    /// Says that the file has these operations of the document of the copier's seat, behind those
+    /// that it had. They are fewer than 2^64 together, and the document is one of these.
+    pub fn publish<R: Wait>(&self, rt: &R, seat: &mut CopierSeat<M>, operations: &[Operation])
+        requires there { seat.old.number < length self.now.counters.counters.items }
+        requires fits { length seat.old.stored + length operations.now < 2 ^ 64 }
+        ensures { seat.new ≡ copying seat.old.number seat.old.ids
+            (seat.old.stored ++ operation_ids operations.now) }
     {
         // First: a session that goes on may soon wait again.
         let waits = self.waits.load(Ordering::SeqCst);
-        let published = self.counters.publish(document, rows);
-        if published.changed() && self.waiting.load(Ordering::SeqCst) > 0 {
+        self.counters.publish(rt, seat, operations);
+        if !operations.is_empty() && self.waiting.load(Ordering::SeqCst) > 0 {
             self.want(waits);
-            self.counters.wake(document);
+            self.counters.wake(seat.number() as usize);
         }
-        published
     }
 
-    /// How many operations of the document of this number the file had when that was last published.
+    /// How many operations of the document of this number the file has, as it was last published.
     pub fn noted(&self, document: usize) -> u64 {
         self.counters.noted(document)
     }
@@ -217,8 +237,22 @@ impl Progress {
     }
 
     /// Says that nothing copies from now on. Who waits is woken.
-    pub fn stop(&self) {
-        self.counters.stop();
+    pub fn stop<R: Wait>(&self, rt: &R) {
+        self.counters.stop(rt);
+    }
+
+    /// Says that a copier runs, after `stop`: sessions wait for it again.
+    pub fn go_on<R: Wait>(&self, rt: &R) {
+        self.counters.go_on(rt);
+    }
+
+    // Whether a session waits, as far as can be seen without the lock: for the document's log to
+    // have so many operations in the file, of which it has this many, or nothing copies.
+    fn waits(&self, hint: Option<u64>, count: u64) -> bool {
+        match next_step(self.pace, hint, count) {
+            Turn::Waits => true,
+            Turn::Goes | Turn::Ends => false,
+        }
     }
 
     // `wait_for`, once the session counts as one that waits.
@@ -226,14 +260,35 @@ impl Progress {
         ensures { IfSome result (λ read. (read.document ≡ document) × MayGo self.now.pace read.stored count) }
     {
         for _ in rt.forever() {
-            let read = self.counters.read(document);
-            match next_step(self.pace, read.stored(), count) {
-                Turn::Goes => return Some(read),
-                Turn::Waits => self.counters.sleep(rt, &read),
-                Turn::Ends => return None,
+            let hint = self.counters.hint(document);
+            if self.waits(hint, count) {
+                self.counters.sleep(rt, document, hint);
+            } else {
+                let read = self.counters.read(rt, document);
+                match next_step(self.pace, read.stored(), count) {
+                    Turn::Goes => return Some(read),
+                    Turn::Waits => {}
+                    Turn::Ends => return None,
+                }
             }
         }
         None
+    }
+
+    // `wait_for`, where the session begins to wait.
+    fn wait_more<R: Wait>(
+        &self,
+        rt: &R,
+        signal: &Signal,
+        document: usize,
+        count: u64,
+    ) -> Option<Reading>
+        ensures { IfSome result (λ read. (read.document ≡ document) × MayGo self.now.pace read.stored count) }
+    {
+        self.begin(signal);
+        let goes = self.wait_counted(rt, document, count);
+        self.waiting.fetch_sub(1, Ordering::SeqCst);
+        goes
     }
 
     /// Waits until the reply to a change may go out after which the document's log has so many
@@ -249,16 +304,14 @@ impl Progress {
         ensures document { IfSome result (λ read. read.document ≡ document) }
         ensures goes { IfSome result (λ read. MayGo self.now.pace read.stored count) }
     {
-        let read = self.counters.read(document);
+        if self.waits(self.counters.hint(document), count) {
+            return self.wait_more(rt, signal, document, count);
+        }
+        let read = self.counters.read(rt, document);
         match next_step(self.pace, read.stored(), count) {
             Turn::Goes => Some(read),
             Turn::Ends => None,
-            Turn::Waits => {
-                self.begin(signal);
-                let goes = self.wait_counted(rt, document, count);
-                self.waiting.fetch_sub(1, Ordering::SeqCst);
-                goes
-            }
+            Turn::Waits => self.wait_more(rt, signal, document, count),
         }
     }
 }

@@ -44,7 +44,7 @@ impl Model for Blank {
 /// by seat. Contracts see it as the first number of which that is known. It takes no bytes.
 #[derive(Drop)]
 pub struct Table<M: Marker> {
-    rest: Rest,
+    pub(crate) rest: Rest,
     of: PhantomData<M>,
 }
 
@@ -135,7 +135,7 @@ impl<M: Marker> Table<M> {
         ensures book { result.0 ≡ seat_counter number seat 0 [] }
         ensures share { result.1 ≡ seat_counter number seat 0 [] }
     {
-        let (one, other) = self.rest.open(u64::from(number) * 65536 + u64::from(seat));
+        let (one, other) = self.rest.open(u64::from(number) * 65537 + u64::from(seat));
         (
             Book {
                 number,

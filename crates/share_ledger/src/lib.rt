@@ -7,6 +7,9 @@
 //! whatever other seats do in between. A `Blank` is a new table of counters before a marker names
 //! it.
 //!
+//! `StoreBook` and `StoreShare` are two halves of the same kind, one pair for each document: the ids
+//! of its first operations, those that the stored log has. Only `StoreBook::grow` changes them.
+//!
 //! Proved by hand are the tokens of `halves`: seven empty functions over one ghost name, and three
 //! `unsafe impl`, each with a proof of its own (`Send` for both tokens, `Sync` for a half). All
 //! else is safe code over them.
@@ -18,6 +21,8 @@
 mod calls;
 mod counters;
 mod halves;
+mod stores;
 
 pub use calls::{Calls, Stamp};
 pub use counters::{Blank, Book, Marker, Share, Table};
+pub use stores::{StoreBook, StoreShare};

@@ -42,6 +42,11 @@ pub record IsGoodDoc (d : Doc) : Type 0 where
 abbrev pub AreGood : List Doc → Type 0
 AreGood docs = AllByRecursion IsGoodDoc docs
 
+-- documents that a stored log may have
+pub record AreSound (docs : List Doc) : Type 0 where
+  pub in_order : AreInOrder docs
+  pub good : AreGood docs
+
 -- ---- one document of them
 
 abbrev pub is_named : List ℕ → Doc → Bool

@@ -2,7 +2,7 @@
 use Rattle.std.specs.Prelude.{◌≡◌, ◌⊎◌, ◌+◌, ◌≤◌, ℕ, Bool, false, List, length}
 use Rattle.std.proofs.Common.{inl, inr, le_trans, le-add_right, subst, sym, ◌∙◌}
 use Rattle.op_core.specs.Op.{Op}
-use Rattle.stored_log.specs.Docs.{Doc, IsBatch, add_batch, log_of}
+use Rattle.stored_log.specs.Docs.{AreSound, Doc, IsBatch, add_batch, log_of}
 
 pub record LogState : Type 0 where
   -- the last epoch that was given out, 0 if none was
@@ -18,6 +18,13 @@ pub record LogState : Type 0 where
 pub record HasSame (it : LogState) (epoch : ℕ) (docs : List Doc) : Type 0 where
   pub same_epoch : epoch ≡ it.epoch
   pub same_docs : docs ≡ it.docs
+
+-- What a crash leaves is something, and it has one epoch and one list of documents.
+pub record LeavesOne (leaves : (ℕ → List Doc → Type 0) → Type 0) : Type 0 where
+  pub some : leaves (λ _ _. ⊥) → ⊥
+  pub one_epoch : (it other : LogState) → leaves (HasSame it) → leaves (HasSame other) → it.epoch ≡ other.epoch
+  pub one_docs : (it other : LogState) → leaves (HasSame it) → leaves (HasSame other)
+      → AreSound it.docs → AreSound other.docs → it.docs ≡ other.docs
 
 -- it has the other's documents, under its epoch or the next
 pub record IsRaisedOrNot (it : LogState) (epoch : ℕ) (docs : List Doc) : Type 0 where

@@ -6,13 +6,15 @@ use Rattle.serde_json.specs.Written.{compact_text}
 use Rattle.line_feed.specs.Cut.{AppendsCut, line_of}
 use Rattle.op_core.specs.Wire.{list_data, front_data}
 use Rattle.crdt_rules.specs.Pull.{front_of}
-use Rattle.stored_log.specs.Docs.{Doc, AreInOrder, AreGood}
+use Rattle.stored_log.specs.Docs.{Doc, AreInOrder, AreGood, log_of}
 
 -- a document's name, how many rows it has, and their front
+abbrev pub rows_data : List ℕ → ℕ → List (List ℕ × ℕ) → Data
+rows_data name rows front =
+    list_data (string (codes "doc") ∷ string name ∷ number (unsigned rows) ∷ front_data front ∷ [])
+
 abbrev pub doc_data : Doc → Data
-doc_data d =
-    list_data
-    (string (codes "doc") ∷ string d.name ∷ number (unsigned (length d.log)) ∷ front_data (front_of d.log) ∷ [])
+doc_data d = rows_data d.name (length d.log) (front_of d.log)
 
 abbrev pub epoch_data : ℕ → Data
 epoch_data epoch = list_data (string (codes "epoch") ∷ number (unsigned epoch) ∷ [])
@@ -22,6 +24,10 @@ doc_line d = line_of (compact_text (doc_data d))
 
 abbrev pub doc_lines : List Doc → List ℕ
 doc_lines docs = flat_map doc_line docs
+
+-- the line of the document of this name
+abbrev pub line_by : List Doc → List ℕ → List ℕ
+line_by docs name = doc_line (record { name = name; log = log_of name docs })
 
 -- a line for each document, and one for the epoch
 abbrev pub report : List Doc → ℕ → List ℕ

@@ -1,6 +1,6 @@
 //! The documents of a stored log.
 ghost use Rattle.std.specs.Prelude.{◌≡◌, ◌≢◌, ◌≤◌, ◌++◌, length, IfOk, IfErr};
-ghost use Rattle.std.specs.Prelude.{OnOk, Err, ℕ, List};
+ghost use Rattle.std.specs.Prelude.{OnOk, Err, ℕ, List, [], ◌∷◌, map, string_bytes};
 ghost use Rattle.std.specs.List.{insert};
 ghost use Rattle.std.specs.Ordering.{is_lt};
 ghost use Rattle.doc_api.specs.Words.{name_cmp, Op};
@@ -63,6 +63,34 @@ pub(crate) fn put(docs: &mut Vec<StoredDoc>, at: usize, doc: StoredDoc) -> Resul
         Ok(()) => Ok(()),
         Err(_) => Err(Fault::Memory),
     }
+}
+
+// Pushes the name.
+fn push_name(alloc: Global, names: &mut Vec<String>, name: &str) -> Result<(), Fault>
+    ensures ok { OnOk result (map string_bytes names.new.items
+        ≡ map string_bytes names.old.items ++ name.now ∷ []) }
+    ensures err { IfErr result (λ e. e ≡ Fault.Memory) }
+{
+    let Ok(name) = String::from_str(alloc, name) else {
+        return Err(Fault::Memory);
+    };
+    match names.push(name) {
+        Ok(()) => Ok(()),
+        Err(_) => Err(Fault::Memory),
+    }
+}
+
+/// The names of the documents, in their order. The only error is out of memory.
+pub fn names(docs: &[StoredDoc], alloc: Global) -> Result<Vec<String>, Fault>
+    ensures ok { IfOk result
+        (λ names. map string_bytes names.items ≡ map (λ d. d.name) docs.now) }
+    ensures err { IfErr result (λ e. e ≡ Fault.Memory) }
+{
+    let mut names = Vec::new(alloc);
+    for doc in docs {
+        push_name(alloc, &mut names, doc.name())?;
+    }
+    Ok(names)
 }
 
 /// The law that a batch appends its entries to those of its document,

@@ -3,18 +3,24 @@
 ghost use Rattle.std.specs.Prelude.{◌≡◌, ◌≢◌, ◌≤◌, ◌↔◌, ◌++◌, ◌∷◌, [], length, IfOk, IfErr, IfSome};
 ghost use Rattle.std.specs.Prelude.{OnOk, Err, MatchOption, MatchResult};
 ghost use Rattle.std.specs.Prelude.{IsTrue, true, false};
+ghost use Rattle.std.specs.Prelude.{Ok};
+ghost use Rattle.std.specs.List.{list_any};
 ghost use Rattle.std.specs.List.Sorted.{IsPartitionPoint};
 ghost use Rattle.std.specs.Ordering.{is_lt};
 ghost use Rattle.doc_api.specs.Words.{name_cmp};
 ghost use Rattle.lamport_id.specs.Name.{is_name};
 ghost use Rattle.list_laws.specs.Sorted.{IsIndexOf, IsGap};
+ghost use Rattle.json_scalar.specs.Refusal.{UnlessMemory};
 ghost use Rattle.crdt_rules.specs.Log.{IsGood};
-ghost use Rattle.stored_log.specs.Docs.{AreInOrder, log_of, add_log};
+ghost use Rattle.crdt_rules.specs.Pull.{front_of};
+ghost use Rattle.stored_log.specs.Docs.{AreInOrder, is_by, log_of, add_log};
 
 use crate::doc::StoredDoc;
 use crate::docs::{clones, is_doc_name, is_less, made, put};
 use crate::fault::Fault;
-use op_core::Operation;
+use json_scalar::Refusal;
+use lamport_id::ReplicaName;
+use op_core::{Front, Operation};
 use op_log::OpLog;
 use std::alloc::Global;
 use std::slice;
@@ -75,6 +81,41 @@ pub fn count(docs: &[StoredDoc], name: &str) -> usize
     match find(docs, name) {
         Some(doc) => doc.len(),
         None => 0,
+    }
+}
+
+/// Whether the replica has made one of the entries of the document of this name.
+pub fn has_made(docs: &[StoredDoc], name: &str, replica: &ReplicaName) -> bool
+    requires { AreInOrder docs.now }
+    ensures { result ≡ list_any (is_by replica.now) (log_of name.now docs.now) }
+{
+    match find(docs, name) {
+        Some(doc) => doc.is_maker(replica),
+        None => false,
+    }
+}
+
+// The front of the entries of the document of this name.
+fn front_in(docs: &[StoredDoc], alloc: Global, name: &str) -> Result<Front, Refusal>
+    requires { AreInOrder docs.now }
+    ensures { UnlessMemory result (Ok (front_of (log_of name.now docs.now))) }
+{
+    match find(docs, name) {
+        Some(doc) => doc.front(),
+        None => Front::from_pairs(alloc, &[]),
+    }
+}
+
+/// The front (a version vector) of the entries of the document of this name, empty where it has no
+/// rows. The only error is out of memory.
+pub fn front(docs: &[StoredDoc], alloc: Global, name: &str) -> Result<Front, Fault>
+    requires { AreInOrder docs.now }
+    ensures ok { IfOk result (λ front. front ≡ front_of (log_of name.now docs.now)) }
+    ensures err { IfErr result (λ e. e ≡ Fault.Memory) }
+{
+    match front_in(docs, alloc, name) {
+        Ok(front) => Ok(front),
+        Err(_) => Err(Fault::Memory),
     }
 }
 

@@ -20,9 +20,9 @@ mod text;
 
 pub use batch::may_add;
 pub use doc::StoredDoc;
-pub use docs::{MAX_BATCH, batches_append, is_doc_name};
+pub use docs::{MAX_BATCH, batches_append, is_doc_name, names};
 pub use fault::Fault;
-pub use in_order::{add, add_one, count, entries, find, log_clone, may_follow};
+pub use in_order::{add, add_one, count, entries, find, front, has_made, log_clone, may_follow};
 pub use list_image::ListImage;
 pub use list_log::{FailingUse, ListLog, ListStore};
 pub use open::OpenLog;

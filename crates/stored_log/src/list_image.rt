@@ -47,7 +47,8 @@ impl ListImage {
 
     /// The last epoch that was given out, 0 if none was.
     pub fn epoch(&self) -> u32
-        ensures { result ≡ self.now.epoch }
+        ensures value { result ≡ self.now.epoch }
+        ensures sound { IsSoundImage self.now }
     {
         self.epoch
     }

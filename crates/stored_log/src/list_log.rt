@@ -9,8 +9,9 @@ use crate::batch::may_add;
 use crate::list_image::ListImage;
 use crate::port::StoredLog;
 use crate::stored_fault::StoredFault;
-use crate::{Fault, LAST_EPOCH, StoredDoc};
-use op_core::Operation;
+use crate::{Fault, LAST_EPOCH};
+use lamport_id::ReplicaName;
+use op_core::{Front, Operation};
 use op_log::OpLog;
 use std::alloc::Global;
 use std::marker::Model;
@@ -187,8 +188,9 @@ impl StoredLog for ListLog {
     type Left = ListStore;
 
     ghost use Rattle.std.specs.Prelude.{⊤};
-    ghost use Rattle.stored_log.specs.Listed.{AreBoth, listed_log};
-    ghost use Rattle.stored_log.specs.Log.{raised_keeps};
+    ghost use Rattle.std.proofs.Common.{refl};
+    ghost use Rattle.stored_log.specs.Listed.{AreBoth, WasListedAlone, kept_alike, listed_log};
+    ghost use Rattle.stored_log.specs.Log.{HasSame, IsAddedOrNot, IsRaisedOrNot, raised_keeps};
 
     ghost log = { listed_log };
 
@@ -196,7 +198,7 @@ impl StoredLog for ListLog {
 
     ghost survives = { λ it may. may it.kept.epoch it.kept.docs };
 
-    ghost was_alone = { λ old new. new.alone ≡ old.kept };
+    ghost was_alone = { WasListedAlone };
 
     ghost is_in_file = { λ it last. AreBoth it.kept last };
 
@@ -204,19 +206,44 @@ impl StoredLog for ListLog {
 
     ghost is_in_store = { λ it last. last.kept ≡ it.kept };
 
+    ghost is_left_sure = { λ last. ⊤ };
+
+    ghost left_survives = { λ last may. may last.kept.epoch last.kept.docs };
+
     ghost still_keeps = { λ it first last kept. raised_keeps first last kept it.kept.epoch it.kept.docs };
 
     ghost is_left = { λ it last both. both.as_kept };
+
+    ghost is_kept = { λ it last kept alone. kept_alike (HasSame (listed_log it)) it.kept last.kept kept
+        (record { same_epoch = refl; same_docs = refl }) };
+
+    ghost has_all = { λ it last moved works. moved.as_kept };
+
+    ghost moved_same = { λ it last kept moved alone. kept_alike (HasSame kept) it.kept last.kept moved.as_kept };
+
+    ghost moved_epoch = { λ it last old moved alone. kept_alike (IsRaisedOrNot old) it.kept last.kept moved.as_kept };
+
+    ghost moved_batch = { λ it last name ops old moved alone.
+        kept_alike (IsAddedOrNot name ops old) it.kept last.kept moved.as_kept };
+
+    ghost still_same = { λ old new was. was.same };
+
+    ghost was_left = { λ old new was sure. (
+      record { kept = old.kept; alone = old.kept },
+      record { as_kept = refl; as_alone = refl },
+      record { as_kept = refl; as_alone = refl },
+    ) };
 
     fn cause(&self) -> Option<StoredFault> {
         self.failure
     }
 
     fn epoch(&self) -> Result<u64, Fault> {
+        let epoch = self.store.kept.epoch();
         if self.failure.is_some() {
             return Err(Fault::Store);
         }
-        Ok(u64::from(self.store.kept.epoch()))
+        Ok(u64::from(epoch))
     }
 
     fn epoch_up(&mut self) -> Result<u64, Fault> {
@@ -241,19 +268,32 @@ impl StoredLog for ListLog {
         }
     }
 
-    fn docs(&self) -> Result<&[StoredDoc], Fault> {
-        let docs = self.store.kept.docs();
-        if self.failure.is_some() {
-            return Err(Fault::Store);
-        }
-        Ok(docs)
-    }
-
     fn rows(&self, doc: &str) -> Result<usize, Fault> {
         if self.failure.is_some() {
             return Err(Fault::Store);
         }
         Ok(crate::count(self.store.kept.docs(), doc))
+    }
+
+    fn has_made(&self, doc: &str, replica: &ReplicaName) -> Result<bool, Fault> {
+        if self.failure.is_some() {
+            return Err(Fault::Store);
+        }
+        Ok(crate::has_made(self.store.kept.docs(), doc, replica))
+    }
+
+    fn front(&self, doc: &str) -> Result<Front, Fault> {
+        if self.failure.is_some() {
+            return Err(Fault::Store);
+        }
+        crate::front(self.store.kept.docs(), self.alloc, doc)
+    }
+
+    fn names(&self, alloc: Global) -> Result<Vec<String>, Fault> {
+        if self.failure.is_some() {
+            return Err(Fault::Store);
+        }
+        crate::names(self.store.kept.docs(), alloc)
     }
 
     fn load(&self, alloc: Global, doc: &str) -> Result<OpLog, Fault> {

@@ -1,14 +1,19 @@
 //! The port: what a server needs of the store of its operations.
 ghost use Rattle.std.specs.Prelude.{◌≡◌, ◌≢◌, ◌⊎◌, ◌+◌, ◌≤◌, ◌↔◌, ℕ, List, [], length, true, false};
-ghost use Rattle.std.specs.Prelude.{IfOk, IfErr, OnOk, OnErr, Err, Ok};
-ghost use Rattle.stored_log.specs.Docs.{AreGood, AreInOrder, Doc, IsBatch, add_batch, log_of};
+ghost use Rattle.std.specs.Prelude.{IfOk, IfErr, OnOk, OnErr, Err, Ok, map, string_bytes};
+ghost use Rattle.std.specs.List.{list_any};
+ghost use Rattle.op_core.specs.Op.{Op};
+ghost use Rattle.crdt_rules.specs.Pull.{front_of};
+ghost use Rattle.stored_log.specs.Docs.{AreGood, AreInOrder, AreSound, Doc, IsBatch, add_batch, is_by};
+ghost use Rattle.stored_log.specs.Docs.{log_of};
 ghost use Rattle.stored_log.specs.Limits.{last_epoch};
 ghost use Rattle.stored_log.specs.Log.{HasBatchAgain, HasSame, IsAddedOrNot, IsRaisedOrNot, KeepsAll};
-ghost use Rattle.stored_log.specs.Log.{LogState, ShowsBatchOrNot};
+ghost use Rattle.stored_log.specs.Log.{LeavesOne, LogState, ShowsBatchOrNot};
 
+use crate::Fault;
 use crate::stored_fault::StoredFault;
-use crate::{Fault, StoredDoc};
-use op_core::Operation;
+use lamport_id::ReplicaName;
+use op_core::{Front, Operation};
 use op_log::OpLog;
 use std::alloc::Global;
 
@@ -40,6 +45,12 @@ pub trait StoredLog: Drop {
     // Whatever a crash leaves of the store that is left is the epoch and the documents.
     ghost is_in_store: { Self → Self.Left → Type 0 };
 
+    // The premise of what is said of the store that is left, as `is_sure`.
+    ghost is_left_sure: { Self.Left → Type 0 };
+
+    // Whatever a crash leaves of the store that is left is such an epoch and such documents.
+    ghost left_survives: { Self.Left → (ℕ → List Doc → Type 0) → Type 0 };
+
     /// Why it failed, if it has failed and the reason is known. No clause speaks of it.
     fn cause(&self) -> Option<StoredFault>;
 
@@ -47,10 +58,19 @@ pub trait StoredLog: Drop {
     fn epoch(&self) -> Result<u64, Fault>
         ensures failed { (result ≡ Err Fault.Store) ↔ ((log self.now).has_failed ≡ true) }
         ensures only { (result ≡ Err Fault.Store) ⊎ (result ≡ Ok (log self.now).epoch) }
+        // The documents have different names, in their order, and each has a valid log.
+        ensures in_order { AreInOrder (log self.now).docs }
+        ensures good { AreGood (log self.now).docs }
         // Laws of crashes: one leaves something, and what it leaves has one epoch.
         ensures some { is_sure self.now → survives self.now (λ _ _. ⊥) → ⊥ }
         ensures one { (it other : LogState) → is_sure self.now → survives self.now (HasSame it)
-            → survives self.now (HasSame other) → it.epoch ≡ other.epoch };
+            → survives self.now (HasSame other) → it.epoch ≡ other.epoch }
+        // It has one list of documents, too, and until a fault that is what the log has.
+        ensures one_docs { (it other : LogState) → is_sure self.now → survives self.now (HasSame it)
+            → survives self.now (HasSame other) → AreSound it.docs → AreSound other.docs
+            → it.docs ≡ other.docs }
+        ensures stays { (log self.now).has_failed ≡ false
+            → survives self.now (HasSame (log self.now)) };
 
     /// Stores and answers one more than the stored epoch. It is refused from 9,999,999 on.
     fn epoch_up(&mut self) -> Result<u64, Fault>
@@ -69,19 +89,31 @@ pub trait StoredLog: Drop {
             → survives self.new (IsRaisedOrNot (log self.old)) }
         ensures stays { OnOk result (survives self.new (HasSame (log self.new))) };
 
-    /// The documents with entries, in the order of their names.
-    fn docs(&self) -> Result<&[StoredDoc], Fault>
-        ensures ok { IfOk result (λ docs. docs.now ≡ (log self.now).docs) }
-        ensures in_order { AreInOrder (log self.now).docs }
-        ensures good { AreGood (log self.now).docs }
-        ensures failed { (result ≡ Err Fault.Store) ↔ ((log self.now).has_failed ≡ true) }
-        ensures never_else { IfErr result (λ e. e ≡ Fault.Store) };
-
     /// How many entries of the document of this name are stored.
     fn rows(&self, doc: &str) -> Result<usize, Fault>
         ensures ok { IfOk result (λ rows. rows ≡ length (log_of doc.now (log self.now).docs)) }
         ensures failed { (result ≡ Err Fault.Store) ↔ ((log self.now).has_failed ≡ true) }
         ensures never_else { IfErr result (λ e. e ≡ Fault.Store) };
+
+    /// Whether the replica has made one of the entries of the document of this name.
+    fn has_made(&self, doc: &str, replica: &ReplicaName) -> Result<bool, Fault>
+        ensures ok { IfOk result
+            (λ made. made ≡ list_any (is_by replica.now) (log_of doc.now (log self.now).docs)) }
+        ensures failed { (result ≡ Err Fault.Store) ↔ ((log self.now).has_failed ≡ true) }
+        ensures never_else { IfErr result (λ e. e ≡ Fault.Store) };
+
+    /// The front (a version vector) of the entries of the document of this name.
+    fn front(&self, doc: &str) -> Result<Front, Fault>
+        ensures ok { IfOk result (λ front. front ≡ front_of (log_of doc.now (log self.now).docs)) }
+        ensures failed { (result ≡ Err Fault.Store) ↔ ((log self.now).has_failed ≡ true) }
+        ensures never_refused { IfErr result (λ e. (e ≡ Fault.Store) ⊎ (e ≡ Fault.Memory)) };
+
+    /// The names of the documents with entries, in their order.
+    fn names(&self, alloc: Global) -> Result<Vec<String>, Fault>
+        ensures ok { IfOk result
+            (λ names. map string_bytes names.items ≡ map (λ d. d.name) (log self.now).docs) }
+        ensures failed { (result ≡ Err Fault.Store) ↔ ((log self.now).has_failed ≡ true) }
+        ensures never_refused { IfErr result (λ e. (e ≡ Fault.Store) ⊎ (e ≡ Fault.Memory)) };
 
     /// The log of the document, as a clone; empty where no entry of it is
     /// stored. No entry is checked again.
@@ -135,7 +167,8 @@ pub trait StoredLog: Drop {
         ensures same { IfOk result (λ it. log it ≡ log self) }
         ensures folded { IfOk result (λ it. (log self).has_failed ≡ false → was_alone self it) }
         // Nothing is lost.
-        ensures left { IfErr result (λ e. (log self).has_failed ≡ false → is_in_store self e.1) };
+        ensures left { IfErr result (λ e. (log self).has_failed ≡ false → is_in_store self e.1) }
+        ensures sure { IfErr result (λ e. is_left_sure e.1 → LeavesOne (left_survives e.1)) };
 
     /// Moves all that is stored to the file alone, and leaves the store; after a
     /// fault too.
@@ -144,7 +177,10 @@ pub trait StoredLog: Drop {
             (λ last. (log self).has_failed ≡ false → is_in_file self last) }
         ensures copied { IfOk result (has_moved self) }
         // Nothing is lost.
-        ensures left { IfErr result (λ e. (log self).has_failed ≡ false → is_in_store self e.1) };
+        ensures left { IfErr result (λ e. (log self).has_failed ≡ false → is_in_store self e.1) }
+        // A crash leaves something of the store, of one epoch and with one list of documents.
+        ensures one { IfOk result (λ last. is_left_sure last → LeavesOne (left_survives last)) }
+        ensures sure { IfErr result (λ e. is_left_sure e.1 → LeavesOne (left_survives e.1)) };
 
     // What a crash leaves behind a new epoch keeps what was kept before it.
     ghost still_keeps: { (it : Self) (first last : LogState) → KeepsAll first last.epoch last.docs
@@ -152,4 +188,32 @@ pub trait StoredLog: Drop {
 
     // What the file alone holds a crash leaves.
     ghost is_left: { (it : Self) (last : Self.Left) → is_in_file it last → is_in_store it last };
+
+    // What the store holds that is left a crash leaves of it.
+    ghost is_kept: { (it : Self) (last : Self.Left) → is_in_store it last
+        → (log it).is_alone ≡ true → left_survives last (HasSame (log it)) };
+
+    // Where nothing failed, the store to which it has moved holds what the log has.
+    ghost has_all: { (it : Self) (last : Self.Left) → has_moved it last
+        → (log it).has_failed ≡ false → is_in_store it last };
+
+    // After a fault, too, a crash leaves of that store what one left of the log: what it
+    // had, or a new epoch, or a batch, which may have failed.
+    ghost moved_same: { (it : Self) (last : Self.Left) (kept : LogState) → has_moved it last
+        → (log it).is_alone ≡ true → survives it (HasSame kept) → left_survives last (HasSame kept) };
+
+    ghost moved_epoch: { (it : Self) (last : Self.Left) (old : LogState) → has_moved it last
+        → (log it).is_alone ≡ true → survives it (IsRaisedOrNot old)
+        → left_survives last (IsRaisedOrNot old) };
+
+    ghost moved_batch: { (it : Self) (last : Self.Left) (name : List ℕ) (ops : List Op) (old : LogState)
+        → has_moved it last → (log it).is_alone ≡ true → survives it (IsAddedOrNot name ops old)
+        → left_survives last (IsAddedOrNot name ops old) };
+
+    // A log whose file was alone has what it had before, and in between there was a store as
+    // `close` leaves it.
+    ghost still_same: { (old new : Self) → was_alone old new → log new ≡ log old };
+
+    ghost was_left: { (old new : Self) → was_alone old new → is_sure new
+        → (last : Self.Left) × is_in_file old last × has_moved old last };
 }

@@ -8,13 +8,14 @@ ghost use Rattle.serde_json.specs.Written.{compact_text};
 ghost use Rattle.json_text.specs.Tokens.{data_tokens};
 ghost use Rattle.line_feed.specs.Cut.{AppendsCut, line_of};
 ghost use Rattle.stored_log.specs.Docs.{AreInOrder, AreGood};
-ghost use Rattle.stored_log.specs.Report.{doc_data, epoch_data, doc_line, report, refusal_line};
+ghost use Rattle.stored_log.specs.Report.{epoch_data, line_by, report, refusal_line, rows_data};
 ghost use Rattle.stored_log.specs.Report.{StopsShort};
 
-use crate::{Fault, StoredDoc, StoredFault, StoredLog};
+use crate::{Fault, StoredFault, StoredLog};
 use json_scalar::Refusal;
 use json_text::{AsJson, JsonText};
 use line_feed::{Sink, write_all};
+use op_core::Front;
 use std::alloc::Global;
 
 /// What is reported instead of a report where a file holds no stored log.
@@ -172,28 +173,59 @@ fn report_of<L: StoredLog>(alloc: Global, copy: &L) -> Result<String, Refusal>
     ensures good { AreInOrder (L.log copy.now).docs × AreGood (L.log copy.now).docs }
     ensures works { IfOk result (λ text. (L.log copy.now).has_failed ≡ false) }
 {
-    match (copy.docs(), copy.epoch()) {
-        (Ok(docs), Ok(epoch)) => lines_of(alloc, docs, epoch),
-        _ => Err(Refusal::CopyRefused),
+    match copy.epoch() {
+        Ok(epoch) => lines_of(alloc, copy, epoch),
+        Err(_) => Err(Refusal::CopyRefused),
     }
 }
 
-fn lines_of(alloc: Global, docs: &[StoredDoc], epoch: u64) -> Result<String, Refusal>
-    ensures { IfOk result (λ text. string_bytes text ≡ report docs.now epoch) }
+fn lines_of<L: StoredLog>(alloc: Global, copy: &L, epoch: u64) -> Result<String, Refusal>
+    requires { AreInOrder (L.log copy.now).docs }
+    ensures { IfOk result (λ text. string_bytes text ≡ report (L.log copy.now).docs epoch) }
 {
+    let Ok(names) = copy.names(alloc) else {
+        return Err(Refusal::CopyRefused);
+    };
     let mut text = String::new(alloc);
-    for doc in docs {
-        add_doc(alloc, &mut text, doc)?;
+    for name in &names {
+        add_doc(alloc, &mut text, copy, name.as_str())?;
     }
     add_epoch(alloc, &mut text, epoch)?;
     Ok(text)
 }
 
-fn add_doc(alloc: Global, text: &mut String, doc: &StoredDoc) -> Result<(), Refusal>
-    ensures { OnOk result (string_bytes text.new ≡ string_bytes text.old ++ doc_line doc.now) }
+// Adds the line of the document of this name.
+fn add_doc<L: StoredLog>(
+    alloc: Global,
+    text: &mut String,
+    copy: &L,
+    name: &str,
+) -> Result<(), Refusal>
+    ensures { OnOk result (string_bytes text.new
+        ≡ string_bytes text.old ++ line_by (L.log copy.now).docs name.now) }
+{
+    let Ok(rows) = copy.rows(name) else {
+        return Err(Refusal::CopyRefused);
+    };
+    let Ok(front) = copy.front(name) else {
+        return Err(Refusal::CopyRefused);
+    };
+    add_rows(alloc, text, name, rows, &front)
+}
+
+// Adds a line with this name, so many rows and their front.
+fn add_rows(
+    alloc: Global,
+    text: &mut String,
+    name: &str,
+    rows: usize,
+    front: &Front,
+) -> Result<(), Refusal>
+    ensures { OnOk result (string_bytes text.new ≡ string_bytes text.old
+        ++ line_of (compact_text (rows_data name.now rows front.now))) }
 {
     let mut line = JsonText::new(alloc);
-    put_doc(&mut line, doc)?;
+    put_rows(&mut line, name, rows, front)?;
     add_line(text, line)
 }
 
@@ -216,14 +248,14 @@ fn add_line(text: &mut String, line: JsonText) -> Result<(), Refusal>
 }
 
 #[tactic(auto, using(crate::proofs::Lines::fours))]
-fn put_doc(line: &mut JsonText, doc: &StoredDoc) -> Result<(), Refusal>
-    ensures { OnOk result (line.new ≡ line.old ++ data_tokens (doc_data doc.now)) }
+fn put_rows(line: &mut JsonText, name: &str, rows: usize, front: &Front) -> Result<(), Refusal>
+    ensures { OnOk result (line.new ≡ line.old ++ data_tokens (rows_data name.now rows front.now)) }
 {
     line.begin_list()?;
     line.text("doc")?;
-    line.text(doc.name())?;
-    line.count(doc.len() as u64)?;
-    doc.front()?.put_in(line)?;
+    line.text(name)?;
+    line.count(rows as u64)?;
+    front.put_in(line)?;
     line.end_list()
 }
 

@@ -3,6 +3,7 @@ pub mod RowLemmas
 pub mod BatchLemmas
 pub mod NextLemmas
 pub mod SortLemmas
+pub mod OneLog
 mod EntryLemmas
 mod Reading
 mod StateLemmas

@@ -1,7 +1,7 @@
 -- The rows of a sound copy in the order in which they are read.
-use Rattle.std.proofs.Common.{◌≡◌, ◌+◌, ◌<◌, ℕ, zero, suc, ℤ, pos, true, false, List, [], ◌∷◌, map, codes, Contains, refl, subst, sym, arith, Less, IsPermutation, IsSorted}
+use Rattle.std.proofs.Common.{◌≡◌, ◌+◌, ◌<◌, ℕ, zero, suc, ℤ, pos, true, false, List, [], ◌∷◌, map, codes, Contains, refl, subst, sym, ap, ◌∙◌, add-one, arith, Less, is_lt, IsPermutation, IsSorted}
 use Rattle.std.specs.List.{AllByRecursion}
-use Rattle.std.specs.Ordering.{int_cmp}
+use Rattle.std.specs.Ordering.{int_cmp, ordering_reverse}
 use Rattle.std.proofs.lemmas.Bool.Decides.{nat_tests}
 use Rattle.std.proofs.lemmas.Cmp.{tied_itself}
 use Rattle.std.proofs.lemmas.List.Sorted.{IsPermutation-sym, IsPermutation-trans}
@@ -69,6 +69,17 @@ across a p (t ∷ texts) docs h = (above_docs a p t docs h, across a (p + 1) tex
 rows_rise : (docs : List Doc) → AreInOrder docs → IsAscending IsLess (rows_of docs)
 rows_rise [] h = tt
 rows_rise (d ∷ docs) h = ascending-append IsLess (doc_rows d) (rows_of docs) (places_rise d.name 1 (map op_text d.log)) (rows_rise docs h.1) (across d.name 1 (map op_text d.log) docs h.0)
+
+sorted_rows : (rows : List Row) → IsAscending IsLess rows → IsSorted row_cmp rows
+sorted_rows [] up k d low high = absurd (omega arith)
+sorted_rows (a ∷ []) up k d low high = absurd (omega arith)
+sorted_rows (a ∷ b ∷ rows) up zero d low high = ap is_lt ((key_cmp_total (rising ∷ rising ∷ []) 0).antisymm b a ∙ ap ordering_reverse up.0.0)
+sorted_rows (a ∷ b ∷ rows) up (suc k) d low high = rw add-one (rw add-one at (sorted_rows (b ∷ rows) up.1 k d (omega arith) (omega arith)))
+
+-- documents with the same rows have them in the same order
+pub one_order : (docs others : List Doc) → AreInOrder docs → AreInOrder others → IsPermutation (rows_of docs) (rows_of others) → rows_of docs ≡ rows_of others
+one_order docs others in_order also same =
+    sym (sorted_unique row_cmp (key_cmp_total (rising ∷ rising ∷ []) 0) (rows_of docs) (rows_of others) (rows_rise docs in_order) same (sorted_rows (rows_of others) (rows_rise others also)))
 
 module _ (what : Content) (trees : Trees) (holds : Holds what trees) where
   -- the entries are read as they stand in the documents

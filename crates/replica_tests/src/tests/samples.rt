@@ -275,7 +275,7 @@ pub fn document<M: Marker>(
     requires place { table.old ≤ counter_number number 0 }
     requires begun { BeginEmpty M.origin }
     ensures ok { IfOk result (λ d. d.number ≡ number) }
-    ensures table { OnOk result (table.new ≤ counter_number number seats + 1) }
+    ensures table { OnOk result (table.new ≤ counter_number (number + 1) 0) }
 {
     let ledgers = Ledgers::make(alloc, table, number, seats)?;
     holding(alloc, server(alloc)?, ledgers)

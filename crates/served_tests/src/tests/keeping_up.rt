@@ -20,7 +20,7 @@ use std::sync::atomic::{AtomicU64, Ordering};
 use std::sync::{Mutex, Wait};
 use std::thread;
 use std::thread::Threads;
-use stored_log::{StoredDoc, StoredFault, StoredLog};
+use stored_log::{StoredFault, StoredLog};
 
 // Counts the rows that were written.
 #[derive(Drop)]
@@ -29,7 +29,7 @@ struct CountsRows<'a> {
 }
 
 impl CopyObserver for CountsRows<'_> {
-    fn added(&self, _document: &StoredDoc, entries: &[Operation]) {
+    fn added<L: StoredLog>(&self, _stored: &L, _name: &str, _rows: usize, entries: &[Operation]) {
         self.rows.fetch_add(entries.len() as u64, Ordering::SeqCst);
     }
 

@@ -22,7 +22,7 @@ use std::process::Abort;
 use std::sync::{Mutex, Wait};
 use std::thread::Threads;
 use std::time::Clock;
-use stored_log::{ListLog, StoredDoc, StoredFault, StoredLog};
+use stored_log::{ListLog, StoredFault, StoredLog};
 
 // Counts how often it is notified of a fault.
 #[derive(Drop)]
@@ -32,7 +32,7 @@ struct Counting<'a, R: Wait> {
 }
 
 impl<R: Wait> CopyObserver for Counting<'_, R> {
-    fn added(&self, _document: &StoredDoc, _entries: &[Operation]) {}
+    fn added<L: StoredLog>(&self, _stored: &L, _name: &str, _rows: usize, _entries: &[Operation]) {}
 
     fn lacks_memory(&self) {}
 
@@ -170,7 +170,16 @@ pub fn faults_seen<R: Threads + Wait + Abort + Sync + Log + Clock, L: StoredLog>
 static NO_FAULT: [Case<'static>; 1] = [Case {
     name: "nothing_is_reported_without_a_fault",
     documents: &["d"],
-    deeds: &[Deed::Copies(0, 0)],
+    deeds: &[
+        Deed::Serves(Start {
+            server: "srv",
+            sessions: &[THREE_WHOLE],
+            status: 0,
+            totals: b"[\"total\",\"d\",3,3,3]\n",
+            replies: None,
+        }),
+        Deed::Copies(0, 0),
+    ],
 }];
 
 #[test]

@@ -1,14 +1,14 @@
 //! Documents as a session reaches them: each call takes one document's lock.
-ghost use Rattle.std.specs.Prelude.{◌≡◌, ◌<◌, length, IfOk};
+ghost use Rattle.std.specs.Prelude.{◌≡◌, ◌<◌, length};
 ghost use Rattle.share_ledger.specs.Begun.{BeginEmpty};
 
 use super::samples::{did, shared_documents};
 use crate::checks::holds;
 use doc_api::{Command, Look, Place, Query, Reply, Steps};
 use json_scalar::{Refusal, Scalar, Val};
-use locked_doc::{LockedDoc, Seat, SeatEnd};
+use locked_doc::{LockedDoc, SeatEnd};
 use op_core::{Cursor, Key, Mutation, Path};
-use server_core::{Debts, OnShelf, OpenGate, SharedDocuments};
+use server_core::{OnShelf, OpenGate, SharedDocuments};
 use session_core::DocAccess;
 use share_ledger::{Blank, Marker};
 use std::alloc::Global;
@@ -28,71 +28,22 @@ fn whole(alloc: Global) -> Place {
     }
 }
 
-fn opens<M: Marker, R: Wait>(
-    rt: &R,
-    shared: &SharedDocuments<M>,
-    number: usize,
-) -> Result<Seat<M>, Refusal>
-    requires { number < length shared.now.names.items }
-    ensures { IfOk result (λ seat. (seat.number ≡ number) × (0 < seat.seat)) }
-{
-    let debts = Debts::none(*shared.names.allocator());
-    let mut access = OnShelf {
-        rt,
-        shared,
-        gate: &OpenGate,
-        session: 1,
-        debts: &debts,
-    };
-    access.open(number)
-}
-
 // The reply to an assignment of 7 to the whole document.
-fn assigns<M: Marker, R: Wait>(
-    rt: &R,
-    alloc: Global,
-    shared: &SharedDocuments<M>,
-    number: usize,
-    seat: &mut Seat<M>,
-) -> Reply
-    requires within { number < length shared.now.names.items }
-    requires seat { (seat.old.number ≡ number) × (0 < seat.old.seat) }
-    ensures { (seat.new.number ≡ number) × (0 < seat.new.seat) }
+fn assigns<A: DocAccess>(alloc: Global, access: &mut A, number: usize, seat: &mut A::Seat) -> Reply
+    requires { A.has_seat access.old number seat.old }
+    ensures { A.has_seat access.new number seat.new }
 {
-    let debts = Debts::none(alloc);
-    let mut access = OnShelf {
-        rt,
-        shared,
-        gate: &OpenGate,
-        session: 1,
-        debts: &debts,
-    };
     let assignment = Mutation::Assign(Val::Scalar(Scalar::Int(7)));
     let command = Command::Change(whole(alloc), assignment);
-    access.act(number, seat, command).into_reply()
+    A::into_reply(access.act(number, seat, command))
 }
 
 // The reply to a query for the values of the whole document.
-fn reads<M: Marker, R: Wait>(
-    rt: &R,
-    alloc: Global,
-    shared: &SharedDocuments<M>,
-    number: usize,
-    seat: &mut Seat<M>,
-) -> Reply
-    requires within { number < length shared.now.names.items }
-    requires seat { (seat.old.number ≡ number) × (0 < seat.old.seat) }
+fn reads<A: DocAccess>(alloc: Global, access: &mut A, number: usize, seat: &mut A::Seat) -> Reply
+    requires { A.has_seat access.old number seat.old }
 {
-    let debts = Debts::none(alloc);
-    let mut access = OnShelf {
-        rt,
-        shared,
-        gate: &OpenGate,
-        session: 1,
-        debts: &debts,
-    };
     let query = Query::Look(Look::Values, whole(alloc));
-    access.read(number, seat, query).into_reply()
+    A::into_reply(access.read(number, seat, query))
 }
 
 fn is_seven(reply: &Reply) -> bool {
@@ -113,21 +64,19 @@ fn is_first(reply: &Reply) -> bool {
 }
 
 // What a seat assigns by one call it reads by the next.
-fn assigns_and_reads<M: Marker, R: Abort + Wait>(
+fn assigns_and_reads<R: Abort, A: DocAccess>(
     rt: &R,
     alloc: Global,
-    shared: &SharedDocuments<M>,
-    seat: &mut Seat<M>,
+    access: &mut A,
+    number: usize,
+    seat: &mut A::Seat,
 )
-    requires within { 1 < length shared.now.names.items }
-    requires seat { (seat.old.number ≡ 1) × (0 < seat.old.seat) }
+    requires { A.has_seat access.old number seat.old }
 {
-    let here = assigns(rt, alloc, shared, 1, seat);
+    let here = assigns(alloc, access, number, seat);
     holds(rt, is_first(&here), "here");
-    let values = reads(rt, alloc, shared, 1, seat);
+    let values = reads(alloc, access, number, seat);
     holds(rt, is_seven(&values), "values");
-    let counts = (seat.number(), seat.account());
-    holds(rt, counts == (1, 1), "number and account");
 }
 
 // The ends of both seats of the first document, of which there is no third.
@@ -138,9 +87,10 @@ fn both_of_first<M: Marker, R: Abort + Wait>(
 ) -> Result<Vec<SeatEnd<M>>, Refusal>
     requires { 1 < length shared.now.names.items }
 {
-    let one = opens(rt, shared, 0)?;
-    let two = opens(rt, shared, 0)?;
-    let is_full = matches!(opens(rt, shared, 0), Err(Refusal::SeatsFull));
+    let mut access = OnShelf::new(alloc, rt, shared, &OpenGate, 1)?;
+    let one = access.open(0)?;
+    let two = access.open(0)?;
+    let is_full = matches!(access.open(0), Err(Refusal::SeatsFull));
     holds(rt, is_full, "no third seat");
     Ok(vec![in alloc; one.end(), two.end()]?)
 }
@@ -153,8 +103,11 @@ fn one_of_second<M: Marker, R: Abort + Wait>(
 ) -> Result<Vec<SeatEnd<M>>, Refusal>
     requires { 1 < length shared.now.names.items }
 {
-    let mut seat = opens(rt, shared, 1)?;
-    assigns_and_reads(rt, alloc, shared, &mut seat);
+    let mut access = OnShelf::new(alloc, rt, shared, &OpenGate, 1)?;
+    let mut seat = access.open(1)?;
+    assigns_and_reads(rt, alloc, &mut access, 1, &mut seat);
+    let counts = (seat.number(), seat.account());
+    holds(rt, counts == (1, 1), "number and account");
     Ok(vec![in alloc; seat.end()]?)
 }
 

@@ -1,13 +1,16 @@
 //! Replies that wait until a side says that the file has what they say.
-ghost use Rattle.std.specs.Prelude.{◌≡◌};
+ghost use Rattle.std.specs.Prelude.{◌≡◌, ◌<◌, length};
 ghost use Rattle.share_ledger.specs.Begun.{BeginEmpty};
 
 use super::samples::{Served, THREE, ended_so, shared_documents};
 use super::sessions::logged_first;
 use crate::checks::{holds, replies_are};
 use json_scalar::Refusal;
+use locked_doc::CopierSeat;
 use server_core::doubles::Script;
-use server_core::{OpenGate, Pace, Progress, SharedDocuments, Side, Signalled, run_sessions};
+use server_core::{
+    OpenGate, Pace, Progress, SharedDocuments, Side, Signalled, lock_document, run_sessions,
+};
 use session_rules::Ending;
 use share_ledger::{Blank, Marker};
 use std::alloc::Global;
@@ -28,7 +31,7 @@ const THREE_REPLIES: &str = r#"["opened",1]
 struct Row {
     name: &'static str,
     pace: Pace,
-    stored: u64,
+    stored: usize,
     goes: bool,
     goes_at_last: bool,
 }
@@ -74,14 +77,15 @@ static ROWS: [Row; 5] = [
 // Says how many are stored once three are logged, and at last that nothing copies. It keeps whether
 // there were replies before it said the latter, though the session wasn't to go on.
 #[derive(Drop)]
-struct Late<'a> {
+struct Late<'a, M: Marker> {
     replies: &'a Mutex<Vec<u8>>,
-    stored: u64,
+    seat: CopierSeat<M>,
+    stored: usize,
     goes: bool,
     early: bool,
 }
 
-impl<M: Marker> Side<M> for Late<'_> {
+impl<M: Marker> Side<M> for Late<'_, M> {
     fn run<R: Wait>(&mut self, rt: &R, shared: &SharedDocuments<M>, sessions: u64) {
         let mut seen = Signalled {
             notified: 0,
@@ -93,7 +97,7 @@ impl<M: Marker> Side<M> for Late<'_> {
             }
             seen = shared.signal.wait(rt, seen);
         }
-        shared.progress.publish(0, self.stored);
+        publish_first(rt, shared, &mut self.seat, self.stored);
         for _ in rt.forever() {
             if seen.ended >= sessions || !self.goes {
                 break;
@@ -104,8 +108,44 @@ impl<M: Marker> Side<M> for Late<'_> {
             let _ = shared.signal.pause_longer(rt, seen);
             self.early = !self.replies.lock(rt).is_empty();
         }
-        shared.progress.stop();
+        shared.progress.stop(rt);
     }
+}
+
+// Says that the file has the first ones of what is logged, so many.
+fn publish_first<M: Marker, R: Wait>(
+    rt: &R,
+    shared: &SharedDocuments<M>,
+    seat: &mut CopierSeat<M>,
+    count: usize,
+) {
+    if shared.names.is_empty() || shared.progress.documents() == 0 || seat.number() != 0 {
+        return;
+    }
+    if let Ok(logged) = lock_document(rt, shared, 0, 0).tail_for(seat, 0, 3) {
+        if count <= logged.as_slice().len() && seat.stored() == 0 {
+            shared
+                .progress
+                .publish(rt, seat, &logged.as_slice()[..count]);
+        }
+    }
+}
+
+// Lets sessions wait for the file at this pace. It returns the copier's seat.
+fn copied<M: Marker, R: Wait>(
+    rt: &R,
+    alloc: Global,
+    shared: &mut SharedDocuments<M>,
+    pace: Pace,
+) -> Result<CopierSeat<M>, Refusal>
+    requires { 0 < length shared.old.names.items }
+{
+    let opened = lock_document(rt, shared, 0, 0).open_copier();
+    let (seat, share) = opened.ok_or(Refusal::SeatsFull)?;
+    let mut shares = Vec::new(alloc);
+    shares.push(share)?;
+    shared.progress = Progress::new(alloc, shares, pace)?;
+    Ok(seat)
 }
 
 // What the session did, and whether it replied too early.
@@ -120,10 +160,11 @@ fn paced<M: Marker + Send + Sync, R: Threads + Wait + Sync>(
     requires begun { BeginEmpty M.origin }
 {
     let mut shared = shared_documents::<M>(alloc, blank, &["a"], 1)?;
-    shared.progress = Progress::new(alloc, 1, row.pace)?;
+    let seat = copied(rt, alloc, &mut shared, row.pace)?;
     let scripts = vec![in alloc; Script::new(rt, THREE, replies)]?;
     let side = Late {
         replies,
+        seat,
         stored: row.stored,
         goes: row.goes,
         early: false,

@@ -8,7 +8,7 @@ use crate::checks::{holds, replies_are};
 use crate::shopping::{SHOPPED, SHOPPING};
 use json_scalar::Refusal;
 use line_feed::{DeviceFault, Reader, Sink, Source, Writer};
-use server_core::{Debts, OpenGate, SharedDocuments, serve_session};
+use server_core::{OpenGate, SharedDocuments, serve_session};
 use session_rules::Ending;
 use share_ledger::{Blank, Marker};
 use std::alloc::Global;
@@ -124,6 +124,14 @@ impl<M: Marker, D: Sink> Sink for Looking<'_, M, D> {
 
     ghost unflushed = { λ s. D.unflushed s.device };
 
+    ghost covers = { λ s. D.covers s.device };
+
+    ghost covers_none = { λ s. D.covers_none s.device };
+
+    fn owe(&mut self, document: usize, count: u64) {
+        self.device.owe(document, count);
+    }
+
     fn write_some(&mut self, bytes: &[u8]) -> Result<usize, DeviceFault> {
         if is_locked(self.shared) {
             self.found = true;
@@ -161,17 +169,7 @@ fn looks<M: Marker, R: Wait>(
         device: Writer::new(Vec::new(alloc)),
         found: false,
     };
-    let debts = Debts::none(alloc);
-    let served = serve_session(
-        rt,
-        alloc,
-        &shared,
-        &OpenGate,
-        1,
-        &debts,
-        &mut source,
-        &mut sink,
-    )?;
+    let served = serve_session(rt, alloc, &shared, &OpenGate, 1, &mut source, &mut sink)?;
     Ok((served.why, source.found, sink.found))
 }
 

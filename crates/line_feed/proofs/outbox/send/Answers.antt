@@ -10,6 +10,7 @@ loop-sent-preserved g c =
     let bytes = c.args.bytes.now in
     record {
       works = search rules;
+      covered = λ n count before. c.in_ok-sent.ensures.covered n count (c.loop-sent.invariant.covered n count before);
       from = search rules;
       to = search rules;
       taken = subst (Appends (g.W.Sink.contents c.args.sink.now) (g.W.Sink.contents c.write_some.new.self))

@@ -20,6 +20,7 @@ loop-i-preserved g c =
     let next = next-item waiting_data c.args.waiting.now c.loop-i.i c.index-waiting-i.result _ done _ c.loop-i-test.true c.index-waiting-i.is refl e in
     record {
       works = search rules;
+      covered = λ n count before. c.in_ok-put_waiting.ensures.covered n count (c.loop-i.invariant.covered n count before);
       so_far = (
         _,
         puts-then _ _ _ c.args.piece.now.bytes c.loop-i.piece.bytes c.put_waiting.new.piece.bytes done _ puts c.in_ok-put_waiting.ensures.ok,

@@ -20,6 +20,7 @@ loop-i-preserved g c =
     let next = next-item id_data c.args.ids.now c.loop-i.i c.index-ids-i.result _ done _ c.loop-i-test.true c.index-ids-i.is (c.as_str.ensures.value ∙ c.id_item.ensures.bytes) e in
     record {
       works = search rules;
+      covered = λ n count before. c.in_ok-put.ensures.covered n count (c.loop-i.invariant.covered n count before);
       so_far = (
         _,
         puts-then _ _ _ c.args.piece.now.bytes c.loop-i.piece.bytes c.put.new.piece.bytes done _ puts c.in_ok-put.ensures.ok,

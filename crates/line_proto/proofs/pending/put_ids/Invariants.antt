@@ -2,6 +2,7 @@ use Rattle.std.proofs.Common.{◌≡◌, ◌++◌, false, List, ℕ, map}
 use Rattle.serde_json.specs.View.{items_of}
 use Rattle.serde_json.specs.Written.{items_text}
 use Rattle.op_core.specs.Wire.{id_data}
+use Rattle.line_feed.specs.Covered.{StaysCovered}
 use Rattle.line_proto.specs.Writing.{WritesText}
 use Rattle.line_proto.proofs.Pieces.{rest_from}
 use Rattle.line_proto.proofs.pending.put_ids.Given as goal
@@ -12,6 +13,7 @@ invariant-loop-i g l =
     let contents = g.W.Sink.contents in
     record {
       works : g.W.Sink.has_failed l.sink ≡ false;
+      covered : StaysCovered (g.W.Sink.covers l.fn.sink) (g.W.Sink.covers l.sink);
       so_far : (done : List ℕ) × WritesText (contents l.fn.sink) (contents l.sink) l.fn.piece.bytes l.piece.bytes done
           × (items_text false (items_of (map id_data l.ids)) ≡ done ++ rest_from id_data l.ids l.i);
     }

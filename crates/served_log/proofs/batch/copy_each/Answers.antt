@@ -2,11 +2,11 @@ use Rattle.std.proofs.Common.{◌≡◌, ◌<◌, rules, List, ℕ, [], Ok, Err,
 use Rattle.served_log.specs.Batches.AreAdded.{none}
 use Rattle.served_log.specs.Batches.AreAddedUpTo.{none_yet}
 use Rattle.served_log.proofs.Adding.{adds_next, any_added, none_added}
-use Rattle.served_log.proofs.Knowing.{no_fault, same_fault, stays_known, stays_named, stays_until}
+use Rattle.served_log.proofs.Knowing.{no_fault, same_fault, stays_known, stays_named, stays_until, then_until}
 use Rattle.served_log.proofs.batch.copy_each.Goals as goal
 
 pub loop-doc_index-init : goal.loop-doc_index-init
-loop-doc_index-init g c = record { added = none_yet; any = none; none = λ _. refl; known = λ differ known. known; epoch = refl; works = λ h. h; alone = refl }
+loop-doc_index-init g c = record { added = none_yet; any = none; none = λ _. refl; known = λ differ known. known; kept = λ kept. kept; epoch = refl; works = λ h. h; alone = refl }
 
 pub loop-doc_index-preserved : goal.loop-doc_index-preserved
 loop-doc_index-preserved g c =
@@ -22,6 +22,7 @@ loop-doc_index-preserved g c =
       any = any_added now;
       none = none_added now;
       known = stays_known _ _ _ _ _ _ _ before.known (no_fault c.in_ok-count.count (stays_named _ _ _ _ _ _ names copied.known));
+      kept = λ kept. no_fault c.in_ok-count.count copied.kept (before.kept kept);
       epoch = copied.works.0 ∙ before.epoch;
       works = λ h. copied.works.1 (before.works h);
       alone = copied.alone ∙ before.alone;
@@ -36,3 +37,12 @@ returns-in_err-count-clause-known g c =
     let is : c.from_residual.result ≡ Err fault = search rules in
     let names = ap (λ s. s.names.items) c.at-document.ensures.shared in
     stays_until _ _ _ _ _ _ _ c.loop-doc_index.invariant.known (same_fault c.from_residual.result fault is (stays_named _ _ _ _ _ _ names c.in_err-count.ensures.known))
+
+pub returns-clause-kept : goal.returns-clause-kept
+returns-clause-kept g c = inr c.loop-doc_index.invariant.kept
+
+pub returns-in_err-count-clause-kept : goal.returns-in_err-count-clause-kept
+returns-in_err-count-clause-kept g c =
+    let fault = c.in_err-count.field-0.0 in
+    let is : c.from_residual.result ≡ Err fault = search rules in
+    then_until c.loop-doc_index.invariant.kept (same_fault c.from_residual.result fault is c.in_err-count.ensures.kept)

@@ -3,8 +3,8 @@ use Rattle.served_log.specs.Named.{is_known, replica_name}
 use Rattle.served_log.proofs.OwnNames.{is_given_out}
 use Rattle.served_log.proofs.replica_name.next_replica_name.Goals as goal
 
-pub returns-then-not-is_known-clause-raised : goal.returns-then-not-is_known-clause-raised
-returns-then-not-is_known-clause-raised g c =
+pub returns-then-not-known-clause-raised : goal.returns-then-not-known-clause-raised
+returns-then-not-known-clause-raised g c =
     let up = c.in_ok-epoch.ensures.ok in
     let before = c.loop-epoch.invariant.kept in
     let same = up.2 ∙ before.same_docs in
@@ -13,6 +13,6 @@ returns-then-not-is_known-clause-raised g c =
       raised = omega (arith, up.0, up.1, before.no_less);
       given_out = is_given_out c.in_ok-epoch.epoch (g.L.StoredLog.log c.loop-epoch.stored).has_failed (g.L.StoredLog.log c.loop-epoch.stored).epoch
           (g.L.StoredLog.log c.epoch_up.new.self).epoch c.in_ok-epoch.ensures.refused c.in_ok-epoch.ensures.shut (up.1 ∙ up.0);
-      unknown = ap (λ docs. is_known c.in_ok-replica.replica docs names) (sym (c.in_ok-docs.ensures.ok ∙ same)) ∙ sym c.is_known.ensures ∙ c.if-not-is_known.true;
+      unknown = ap (λ docs. is_known c.in_ok-replica.replica docs names) (sym same) ∙ sym c.in_ok-known.ensures.ok ∙ c.if-not-known.true;
       kept = same;
     }

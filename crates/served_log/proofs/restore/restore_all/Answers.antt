@@ -26,7 +26,7 @@ loop-name-preserved g c =
       each = ap length pushed ∙ length_push docs doc ∙ ap (λ n. n + 1) at.invariant.each;
       seated = ap length c.in_ok-push.ensures.ok ∙ length_push at.seats c.in_ok-doc.seat ∙ ap (λ n. n + 1) at.invariant.seated;
       known = one_seated (g.L.StoredLog.log c.args.from.now.stored.now).docs c.args.names.now at.name-index no_name at.seats _ c.in_ok-doc.seat c.loop-name-test.true at.invariant.seated c.in_ok-push.ensures.ok
-          c.in_ok-doc.ensures.seat.1 at.invariant.known;
+          c.in_ok-doc.ensures.seat.1 c.in_ok-doc.ensures.stored at.invariant.known;
     }
 
 pub loop-name-init : goal.loop-name-init

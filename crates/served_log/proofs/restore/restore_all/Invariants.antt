@@ -1,7 +1,7 @@
 use Rattle.std.proofs.Common.{◌≡◌, ◌<◌, ℕ, map, take, length, get_or}
 use Rattle.doc_rules.specs.Document.{new_document}
 use Rattle.stored_log.specs.Docs.{log_of}
-use Rattle.served_log.specs.Known.{HoldsPrefix, nothing_read}
+use Rattle.served_log.specs.Known.{KnowsRows, nothing_read}
 use Rattle.served_log.proofs.Restored.{no_name}
 use Rattle.served_log.proofs.restore.restore_all.Given as goal
 
@@ -11,5 +11,5 @@ invariant-loop-name g l = record {
   documents : map (λ d. d.document) l.docs.items ≡ map (λ n. new_document l.from.replica.now (log_of n (g.L.StoredLog.log l.from.stored.now).docs) l.from.seats) (map (λ s. s.now) (take l.name-index l.names));
   each : length l.docs.items ≡ l.name-index;
   seated : length l.seats ≡ l.name-index;
-  known : (k : ℕ) → k < l.name-index → HoldsPrefix (g.L.StoredLog.log l.from.stored.now).docs (get_or l.names k no_name).now (get_or l.seats k nothing_read).ids;
+  known : (k : ℕ) → k < l.name-index → KnowsRows (g.L.StoredLog.log l.from.stored.now).docs (get_or l.names k no_name).now (get_or l.seats k nothing_read);
 }

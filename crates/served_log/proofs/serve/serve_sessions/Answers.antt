@@ -2,7 +2,7 @@ use Rattle.std.proofs.Common.{◌≡◌, ◌<◌, ◌∙◌, ℕ, length, get_or
 use Rattle.std.specs.Io.KnownBytes.{Appends}
 use Rattle.served_log.specs.Totals.{AreStored, total_lines}
 use Rattle.server_core.specs.Sums.{AreBooksFrom}
-use Rattle.served_log.specs.Known.{nothing_read}
+use Rattle.served_log.specs.Known.{no_book, nothing_read}
 use Rattle.served_log.proofs.Lines.{of_ok, serves}
 use Rattle.served_log.proofs.Keeping.{alone_beside, copied_if_ran, grown_beside, known_if_well, ok_of_both, then_ok}
 use Rattle.served_log.proofs.serve.serve_sessions.Goals as goal
@@ -29,8 +29,8 @@ returns-in-Ok-clause-served g c =
     let names = map (λ s. s.now) c.args.sessions.names.now in
     let written : Appends (g.W.Write.contents c.args.out.now) (g.W.Write.contents c.write_totals.new.out) (total_lines names gathered.totals.items) = search rules in
     let copied = copied_if_ran g.M.Marker.origin g.L.StoredLog.log _ gathered c.in_ok-gathered.was c.requires.named c.serve_with_copier-ran.ensures.left in
-    let agreed : (k : ℕ) → k < length gathered.followed.items → k < length c.serve_with_copier-ran.new.seats → (get_or gathered.followed.items k nothing_read).ids ≡ (get_or c.serve_with_copier-ran.new.seats k nothing_read).ids =
-    subst (λ bs. (k : ℕ) → k < length bs → k < length c.serve_with_copier-ran.new.seats → (get_or bs k nothing_read).ids ≡ (get_or c.serve_with_copier-ran.new.seats k nothing_read).ids) books c.agree_each.ensures in
+    let agreed : (k : ℕ) → k < length gathered.followed.items → k < length c.serve_with_copier-ran.new.seats → (get_or gathered.followed.items k no_book).ids ≡ (get_or c.serve_with_copier-ran.new.seats k nothing_read).ids =
+    subst (λ bs. (k : ℕ) → k < length bs → k < length c.serve_with_copier-ran.new.seats → (get_or bs k no_book).ids ≡ (get_or c.serve_with_copier-ran.new.seats k nothing_read).ids) books c.agree_each.ensures in
     ok_of_both c.outcome_of.result c.outcome_of.ensures.copied c.outcome_of.ensures.stored
     (λ well stored. serves g.C.Connect.bytes g.C.Connect.follows g.M.Marker.origin _ _ names _ (map (λ t. t.items) gathered.endings.items) given gathered.followed.items _ gathered.totals.items _ _
     c.requires.named served added (sym gathered.totals.ok.0 ∙ many) agreed (known_if_well copied well c.requires.known) (subst (AreStored _ names) same stored) written)

@@ -1,11 +1,11 @@
 use Rattle.std.proofs.Common.{◌∙◌, refl, false, inr, Err}
 use Rattle.served_log.specs.Batches.AreAdded.{none}
 use Rattle.served_log.proofs.Adding.{grows_all, grows_until}
-use Rattle.served_log.proofs.Knowing.{no_fault, same_fault, stays_known, stays_until}
+use Rattle.served_log.proofs.Knowing.{no_fault, same_fault, stays_known, stays_until, then_until}
 use Rattle.served_log.proofs.side.keep_up.Goals as goal
 
 pub loop-init : goal.loop-init
-loop-init g c = record { waits = (tt, tt); grown = record { any = false; added = none; epoch = refl }; known = λ differ known. known; works = λ h. h; alone = refl }
+loop-init g c = record { waits = (tt, tt); grown = record { any = false; added = none; epoch = refl }; known = λ differ known. known; kept = λ kept. kept; works = λ h. h; alone = refl }
 
 pub loop-preserved : goal.loop-preserved
 loop-preserved g c =
@@ -14,6 +14,7 @@ loop-preserved g c =
       waits = (tt, tt);
       grown = grows_all before.grown now.ok;
       known = stays_known _ _ _ _ _ _ _ before.known (no_fault _ now.known);
+      kept = λ kept. no_fault _ now.kept (before.kept kept);
       works = λ h. now.works (before.works h);
       alone = now.alone ∙ before.alone;
     }
@@ -35,3 +36,9 @@ returns-in-Err-clause-known g c = stays_until _ _ _ _ _ _ _ c.loop.invariant.kno
 
 pub returns-in-None-wait_after-clause-known : goal.returns-in-None-wait_after-clause-known
 returns-in-None-wait_after-clause-known g c = inr (stays_known _ _ _ _ _ _ _ c.loop.invariant.known (no_fault _ c.in-Ok.ensures.known))
+
+pub returns-in-Err-clause-kept : goal.returns-in-Err-clause-kept
+returns-in-Err-clause-kept g c = then_until c.loop.invariant.kept (same_fault (Err c.in-Err.fault) c.in-Err.fault refl c.in-Err.ensures.kept)
+
+pub returns-in-None-wait_after-clause-kept : goal.returns-in-None-wait_after-clause-kept
+returns-in-None-wait_after-clause-kept g c = inr (λ kept. no_fault _ c.in-Ok.ensures.kept (c.loop.invariant.kept kept))

@@ -16,3 +16,14 @@ returns-in-Err-Memory-clause-known g c =
 
 pub returns-in-Err-clause-known : goal.returns-in-Err-clause-known
 returns-in-Err-clause-known g c = same_fault (Err c.in-Err.fault) c.in-Err.fault refl c.in-Err.ensures.known
+
+pub returns-in-Ok-clause-kept : goal.returns-in-Ok-clause-kept
+returns-in-Ok-clause-kept g c = inr (no_fault c.in-Ok.most c.in-Ok.ensures.kept)
+
+pub returns-in-Err-Memory-clause-kept : goal.returns-in-Err-Memory-clause-kept
+returns-in-Err-Memory-clause-kept g c =
+    let lacked : c.copy_each.result ≡ Err Memory = search rules in
+    inr (no_store c.copy_each.result lacked c.copy_each.ensures.kept)
+
+pub returns-in-Err-clause-kept : goal.returns-in-Err-clause-kept
+returns-in-Err-clause-kept g c = same_fault (Err c.in-Err.fault) c.in-Err.fault refl c.in-Err.ensures.kept

@@ -12,6 +12,7 @@ invariant_of-self g c =
       counted_copied d.number (document_of d.replica d.seats_of.items (length d.books.items) d.opened d.copied) d.books.items d.unopened.items c.args.copied c.self.invariant.0 within,
       c.self.invariant.1,
       c.self.invariant.2,
+      c.self.invariant.3,
     )
 
 pub returns-then-copied-len : goal.returns-then-copied-len

@@ -1,4 +1,7 @@
 use Rattle.std.proofs.Common.{List, ℕ, subst, ◌∙◌}
+use Rattle.std.specs.Io.KnownBytes.{Appends}
+use Rattle.line_feed.specs.Cut.{AppendsCut}
+use Rattle.line_proto.specs.Replies.{reply_line}
 use Rattle.session_rules.specs.Session.{MayAnswerLine}
 use Rattle.session_core.specs.OpenDocuments.{access_of}
 use Rattle.session_core.specs.Serving.{state_of}
@@ -15,9 +18,9 @@ returns-in-Ok-clause-ok g c = λ names same.
       answers_written (access_of names g.A.DocAccess.opens g.A.DocAccess.acts g.A.DocAccess.reads) g.met.A.DocAccess.acts_short old new c.args.line.now.bytes.now
           c.reply_to-response.result out
           (subst (λ (n : List (List ℕ)). MayAnswerLine (access_of n g.A.DocAccess.opens g.A.DocAccess.acts g.A.DocAccess.reads) old c.args.line.now.bytes.now c.reply_to-response.result new) same
-          c.reply_to-response.ensures.answers.does)
+          c.reply_to-response.ensures.answers)
           may,
-      appended,
+      subst (λ bytes. Appends bytes (g.W.Sink.contents c.write_and_flush.new.sink) (reply_line out)) c.reply_to-response.ensures.bytes appended,
     )
 
 pub returns-clause-cut : goal.returns-clause-cut
@@ -29,7 +32,7 @@ returns-clause-cut g c = λ names same.
       answers_written (access_of names g.A.DocAccess.opens g.A.DocAccess.acts g.A.DocAccess.reads) g.met.A.DocAccess.acts_short old new c.args.line.now.bytes.now
           c.reply_to-response.result out
           (subst (λ (n : List (List ℕ)). MayAnswerLine (access_of n g.A.DocAccess.opens g.A.DocAccess.acts g.A.DocAccess.reads) old c.args.line.now.bytes.now c.reply_to-response.result new) same
-          c.reply_to-response.ensures.answers.does)
+          c.reply_to-response.ensures.answers)
           may,
-      cut,
+      subst (λ bytes. AppendsCut bytes (g.W.Sink.contents c.write_and_flush.new.sink) (reply_line out)) c.reply_to-response.ensures.bytes cut,
     )

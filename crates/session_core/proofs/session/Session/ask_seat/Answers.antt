@@ -33,5 +33,6 @@ returns-in-Some g c =
           seated_from (rules_of g.A.DocAccess old) known g.A.DocAccess.has_seat old new (documents old) (documents new)
           os c.args.number c.in-Some.index c.in-Some.ensures c.perform.new.self _ _ c.index_mut.ensures.value
           c.requires.seats c.perform.ensures.stays;
+      noted = c.perform.ensures.noted;
       names = c.perform.ensures.names;
     }

@@ -16,6 +16,7 @@ returns-in-Some g c = record {
       inl (opens_again (rules_of g.A.DocAccess c.args.access.now) (known_by g.A.DocAccess.seat_view) c.args.self.now.opened.items c.args.number
       (g.A.DocAccess.documents c.args.access.now) c.in-Some.index c.index.result.now c.seat_number.result c.in-Some.ensures c.index.ensures c.seat_number.ensures);
   seats = c.requires.seats;
+  noted = λ number here. (here, refl);
   names = refl;
 }
 
@@ -27,5 +28,6 @@ returns-in-None g c = record {
       (state_of g.A.DocAccess c.open_new.new.access c.open_new.new.self.opened.items)
       c.open_new.result c.in-None.ensures c.open_new.ensures.opens;
   seats = c.open_new.ensures.seats;
+  noted = c.open_new.ensures.noted;
   names = c.open_new.ensures.names;
 }
