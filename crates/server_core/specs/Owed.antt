@@ -2,6 +2,7 @@
 use Rattle.std.specs.Prelude.{◌≡◌, ◌⊎◌, ℕ, ◌<◌, ◌≤◌, List, [], length, get_or, if◌then◌else◌}
 use Rattle.share_ledger.specs.Begun.{Origin}
 use Rattle.doc_api.specs.Words.{Id}
+use Rattle.doc_rules.specs.Seats.{Seat}
 use Rattle.doc_api.specs.declared.ask.Command.{Command}
 use Rattle.doc_api.specs.declared.reply.Reply.{Reply}
 use Rattle.doc_rules.specs.Document.{Document, Acts}
@@ -32,6 +33,13 @@ module _ (origin : ℕ → Origin) where
       (told ≡ [])
       ⊎ ((d : Document) × IsDocument origin number d × IsSomewhere d seat told
       × (length d.replica.log ≤ count))
+
+  -- A seat of the document of this number among these, for which so much is owed that what was
+  -- acknowledged to it is stored before a reply goes out.
+  abbrev pub HasSeat : List (List ℕ) → Owing → ℕ → Seat → Type 0
+  HasSeat names owing number s =
+      (number < length names) × (s.number ≡ number) × (0 < s.seat)
+      × IsOwed number s.seat s.told (owes owing number)
 
   -- The document gave this reply in some state, and it is durable once so many operations are stored.
   abbrev pub IsDurableWith : ℕ → KnownSeat → Command → Reply → ℕ → Type 0

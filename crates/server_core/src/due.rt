@@ -1,5 +1,5 @@
 //! What is due of one document: how many operations of it must be stored.
-ghost use Rattle.std.specs.Prelude.{◌≡◌, ◌⊎◌, None};
+ghost use Rattle.std.specs.Prelude.{◌≡◌, ◌≢◌, ◌⊎◌, None, IfSome};
 ghost use Rattle.std.specs.Option.{ForSome};
 
 use crate::progress::{Pace, Progress, has_enough};
@@ -20,7 +20,8 @@ pub(crate) struct Due {
 
 // What counts as read once more operations are due: not that nothing copied.
 fn still_read(last: Option<Reading>) -> Option<Reading>
-    ensures { (result ≡ last) ⊎ (result ≡ None) }
+    ensures read { (result ≡ last) ⊎ (result ≡ None) }
+    ensures copied { IfSome result (λ read. read.stored ≢ None) }
 {
     let read = last?;
     if read.stored().is_some() {
@@ -31,7 +32,8 @@ fn still_read(last: Option<Reading>) -> Option<Reading>
 }
 
 impl Due {
-    ghost use Rattle.std.specs.Prelude.{◌≤◌, IsTrue};
+    ghost use Rattle.std.specs.Prelude.{◌<◌, false, max, IsTrue};
+    ghost use Rattle.server_core.specs.declared.progress.Pace.TheVariants.{Durable};
     ghost use Rattle.server_core.specs.Pacing.{IsPaid, MayGo};
 
     /// Of the document of this number nothing is due.
@@ -53,8 +55,10 @@ impl Due {
     /// At least so many operations are due.
     pub(crate) fn raise(&mut self, count: u64)
         ensures document { self.new.document ≡ self.old.document }
-        ensures count { count ≤ self.new.count }
-        ensures more { self.old.count ≤ self.new.count }
+        ensures count { self.new.count ≡ max count self.old.count }
+        // That nothing copied when it was read last pays for no more.
+        ensures copied { self.old.count < self.new.count
+            → IfSome self.new.last (λ read. read.stored ≢ None) }
     {
         if count > self.count {
             self.count = count;
@@ -96,6 +100,7 @@ impl Due {
         ensures document { self.new.document ≡ self.old.document }
         ensures count { self.new.count ≡ self.old.count }
         ensures paid { IsTrue result → IsPaid progress.now.pace self.new }
+        ensures gives_up { result ≡ false → progress.now.pace ≡ Durable }
     {
         if self.is_paid(progress.pace()) {
             return true;

@@ -1,5 +1,6 @@
 //! What a sink waits for: what is due of each document.
-ghost use Rattle.std.specs.Prelude.{◌≡◌, ℕ, IsTrue};
+ghost use Rattle.std.specs.Prelude.{◌≡◌, ℕ, false, IsTrue};
+ghost use Rattle.server_core.specs.declared.progress.Pace.TheVariants.{Durable};
 ghost use Rattle.server_core.specs.Pacing.{ArePaid, IsDue};
 
 use crate::due::Due;
@@ -39,6 +40,7 @@ pub(crate) fn pay_all<M: Marker, R: Wait>(
     dues: &mut [Due],
 ) -> bool
     ensures paid { IsTrue result → ArePaid progress.now.pace dues.new }
+    ensures gives_up { result ≡ false → progress.now.pace ≡ Durable }
     ensures stay { (document count : ℕ) → IsDue dues.old document count → IsDue dues.new document count }
 {
     for i in 0..dues.len() {

@@ -33,7 +33,7 @@ fn tell<W: Sink>(counts: &[u64], from: usize, to: usize, sink: &mut W)
 }
 
 impl Owing {
-    ghost use Rattle.std.specs.Prelude.{◌≢◌, IfOk};
+    ghost use Rattle.std.specs.Prelude.{◌≢◌, max, IfOk};
     ghost use Rattle.session_core.specs.Owed.{AreCovered, StaysNoted};
     ghost use Rattle.server_core.specs.Owed.{IsNoted, owes};
 
@@ -53,8 +53,7 @@ impl Owing {
     pub(crate) fn raise(&mut self, document: usize, count: u64)
         requires { document < length self.old.counts.items }
         ensures each { length self.new.counts.items ≡ length self.old.counts.items }
-        ensures count { count ≤ owes self.new document }
-        ensures more { owes self.old document ≤ owes self.new document }
+        ensures count { owes self.new document ≡ max count (owes self.old document) }
         ensures others { (number : ℕ) → number ≢ document → owes self.new number ≡ owes self.old number }
         ensures noted { StaysNoted owes IsNoted self.old self.new }
     {

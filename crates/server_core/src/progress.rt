@@ -131,7 +131,9 @@ impl<M: Marker> Progress<M> {
     }
 
     /// Where nothing copies, and nobody waits. It takes no memory.
-    pub fn none(alloc: Global) -> Progress<M> {
+    pub fn none(alloc: Global) -> Progress<M>
+        ensures { result.pace ≡ Pace.Behind 0 }
+    {
         Progress::over(Pace::Behind(0), Counters::none(alloc))
     }
 
@@ -257,7 +259,8 @@ impl<M: Marker> Progress<M> {
 
     // `wait_for`, once the session counts as one that waits.
     fn wait_counted<R: Wait>(&self, rt: &R, document: usize, count: u64) -> Option<Reading>
-        ensures { IfSome result (λ read. (read.document ≡ document) × MayGo self.now.pace read.stored count) }
+        ensures goes { IfSome result (λ read. (read.document ≡ document) × MayGo self.now.pace read.stored count) }
+        ensures ends { result ≡ None → self.now.pace ≡ Pace.Durable }
     {
         for _ in rt.forever() {
             let hint = self.counters.hint(document);
@@ -272,7 +275,7 @@ impl<M: Marker> Progress<M> {
                 }
             }
         }
-        None
+        unreachable!()
     }
 
     // `wait_for`, where the session begins to wait.
@@ -283,7 +286,8 @@ impl<M: Marker> Progress<M> {
         document: usize,
         count: u64,
     ) -> Option<Reading>
-        ensures { IfSome result (λ read. (read.document ≡ document) × MayGo self.now.pace read.stored count) }
+        ensures goes { IfSome result (λ read. (read.document ≡ document) × MayGo self.now.pace read.stored count) }
+        ensures ends { result ≡ None → self.now.pace ≡ Pace.Durable }
     {
         self.begin(signal);
         let goes = self.wait_counted(rt, document, count);
@@ -293,7 +297,7 @@ impl<M: Marker> Progress<M> {
 
     /// Waits until the reply to a change may go out after which the document's log has so many
     /// operations. It returns what it last read of the document, by which the reply may go out. None
-    /// where it never may: the file has the operation not, and nothing copies.
+    /// where it never may: the file has the operation not, nothing copies, and the pace is durable.
     pub fn wait_for<R: Wait>(
         &self,
         rt: &R,
@@ -303,6 +307,7 @@ impl<M: Marker> Progress<M> {
     ) -> Option<Reading>
         ensures document { IfSome result (λ read. read.document ≡ document) }
         ensures goes { IfSome result (λ read. MayGo self.now.pace read.stored count) }
+        ensures ends { result ≡ None → self.now.pace ≡ Pace.Durable }
     {
         if self.waits(self.counters.hint(document), count) {
             return self.wait_more(rt, signal, document, count);

@@ -8,7 +8,7 @@ use crate::checks::{holds, replies_are};
 use crate::shopping::{SHOPPED, SHOPPING};
 use json_scalar::Refusal;
 use line_feed::{DeviceFault, Reader, Sink, Source, Writer};
-use server_core::{OpenGate, SharedDocuments, serve_session};
+use server_core::{OpenGate, Settles, SharedDocuments, serve_session};
 use session_rules::Ending;
 use share_ledger::{Blank, Marker};
 use std::alloc::Global;
@@ -115,6 +115,10 @@ impl<M: Marker, D: Source> Source for Looking<'_, M, D> {
     fn failed(&self) -> bool {
         Source::failed(&self.device)
     }
+}
+
+impl<M: Marker, D: Sink> Settles for Looking<'_, M, D> {
+    ghost pace = { λ s. s.shared.now.progress.pace };
 }
 
 impl<M: Marker, D: Sink> Sink for Looking<'_, M, D> {
