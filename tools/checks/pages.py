@@ -4,14 +4,18 @@ A line has at most 100 columns and a cell of a table at most 120 characters, bot
 of its own, and a page none of lines. A link to a file of the repository leads somewhere, and one to a heading to a heading of that page; so do those of other READMEs.
 The words are looked for outside code. A block ```rattle FILE has lines of that file, in their order; `..` stands for what is left out.
 docs/CRATES.md has a row for each crate, and docs/ARCHITECTURE.md for each file of a package. What the pages say of the time of
-`./test quick` is what `./test` says itself."""
+`./test quick` is what `./test` says itself, and docs/VERIFICATION.md has the number of planted bugs of each folder."""
 
 import argparse
+import collections
 import functools
 import glob
 import os
 import re
 from typing import FrozenSet, Iterator, List
+
+import edits
+from edits import Edit
 
 COLUMNS, CELL = 100, 120
 
@@ -156,6 +160,25 @@ def minute_faults(top: str) -> Iterator[str]:
             yield f"{page}: ./test quick takes {', '.join(said) or 'no'} minutes there, and {', '.join(minutes) or 'no'} in test"
 
 
+def edit_faults(top: str) -> Iterator[str]:
+    """The folders of planted bugs of which docs/VERIFICATION.md has another number."""
+    with open(f"{top}/docs/VERIFICATION.md", encoding="utf-8") as it:
+        said = dict(re.findall(r"(?m)^\| `((?:crates|tests)/[^`]+)` \| (\d+) \|", it.read()))
+    here = collections.Counter(folder_of(it) for it in edits.read_edits(top))
+    for folder, count in sorted(here.items()):
+        if said.get(folder) != str(count):
+            yield f"docs/VERIFICATION.md: {folder} has {said.get(folder, 'no')} edits there, and {count} in the tree"
+
+
+def folder_of(edit: Edit) -> str:
+    """What that page calls the folder of an edit."""
+    if edit.is_of_gate:
+        return "crates/*/must-fail"
+    if edit.is_outside:
+        return "tests/mutations/{hub,js,..}"
+    return "tests/mutations" if "/mutations/" in edit.path else "/".join(edit.path.split("/")[-3:-1])
+
+
 def check(words: argparse.Namespace) -> int:
     wanted = [*TOP_PAGES, *(f"docs/{it}.md" for it in WANTED)]
     missing = [it for it in wanted if not os.path.isfile(f"{words.top}/{it}")]
@@ -169,7 +192,7 @@ def check(words: argparse.Namespace) -> int:
             bad += 1
     others = glob.glob(f"{words.top}/*/README.md") + glob.glob(f"{words.top}/clients/*/README.md")
     linking = [fault for page in sorted(others) for fault in link_faults(words.top, page)]
-    for fault in linking if missing else (*linking, *crate_faults(words.top), *map_faults(words.top), *minute_faults(words.top)):
+    for fault in linking if missing else (*linking, *crate_faults(words.top), *map_faults(words.top), *minute_faults(words.top), *edit_faults(words.top)):
         print(fault)
         bad += 1
     print(f"{len(pages)} pages, {bad} faults")
