@@ -4,6 +4,7 @@
 import { Refused } from "./errors.mjs";
 import { Link } from "./link.mjs";
 import { wordsOf } from "./notices.mjs";
+import { REFUSALS } from "./protocol.mjs";
 import { connected, connectedToHub } from "./session.mjs";
 
 /** @typedef {import("./clock.mjs").Span} Span */
@@ -152,7 +153,8 @@ export class Connection {
   /** @param {unknown} error */
   #wordsOf(error) {
     if (!(error instanceof Refused)) return wordsOf(error);
-    const words = error.number === 4 ? `the server has no document ${this.#way.document}`
+    const words = error.number === REFUSALS["no-such-document"]
+      ? `the server has no document ${this.#way.document}`
       : `the server refuses: ${error.number} ${error.name}`;
     this.#user.refused(words, error);
     return words;

@@ -77,6 +77,8 @@ const MOST_PAGES = 16; // of the server, that one of a hub has
 const IS_ANOTHER = new Set([REFUSALS.forked, REFUSALS["id-conflict"]]);
 /** @type {Set<number>} */
 const NOT_KEPT = new Set([REFUSALS["no-such-document"], REFUSALS["not-allowed"]]);
+/** @type {Set<number>} */
+const FOR_ALL = new Set([REFUSALS["log-full"], REFUSALS["no-memory"]]);
 const HAS_LOST = "the server has lost what it had a moment ago: it is asked again";
 const WAIT_MS = 5000; // behind the last operation of this replica that another sends, for the next one
 
@@ -332,7 +334,8 @@ export class Exchange {
     else this.#confirmed = Math.max(this.#confirmed, Math.min(last, this.#forked - 1));
     if (this.#forked === Infinity) return;
     const front = new Map(this.#core.front()).set(name, this.#forked - 1);
-    for (const op of operationsOf(this.#core.read, front)) this.#refuse(report, op, new Refused(16));
+    const refusal = new Refused(REFUSALS["own-name"]);
+    for (const op of operationsOf(this.#core.read, front)) this.#refuse(report, op, refusal);
   }
 
   /** Compares what both have, before anything is given or taken. Resolves whether something differs.
@@ -648,7 +651,8 @@ export class Exchange {
         this.#sent = before; // it came from another: the next exchange looks who that is
         this.#waitFor(counter);
       }
-      const refusal = reply instanceof Refused ? reply : isNew ? new Refused(15) : undefined;
+      const refusal = reply instanceof Refused ? reply
+        : isNew ? new Refused(REFUSALS["id-conflict"]) : undefined;
       if (refusal) {
         this.#refuse(report, page[at], refusal);
         barred.set(replica, Math.min(counter, barred.get(replica) ?? Infinity));
@@ -982,9 +986,9 @@ const isBarred = (barred, [, [counter, replica], front]) =>
   counter >= (barred.get(replica) ?? Infinity) ||
   front.some(([name, last]) => last >= (barred.get(name) ?? Infinity));
 
-/** Whether a refusal holds for whatever is sent.
+/** Whether a refusal holds for whatever is sent: one of these, or of the hub.
  *  @param {Refused} refusal */
-const isForAll = ({ number }) => number === 18 || number === 22 || number >= 100;
+const isForAll = ({ number }) => FOR_ALL.has(number) || number >= REFUSALS["server-lost"];
 
 /** @param {string} line */
 function idOf(line) {

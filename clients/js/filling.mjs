@@ -4,6 +4,7 @@
 import { Refused } from "./errors.mjs";
 import { isArray, isMap, print } from "./json.mjs";
 import { MOST } from "./limits.mjs";
+import { REFUSALS } from "./protocol.mjs";
 import { Counter, bare, isGiven, pieces } from "./values.mjs";
 
 /** @typedef {import("./session.mjs").Client} Client */
@@ -15,6 +16,11 @@ const ELEMENTS = [8, 2]; // of a list that are named together, by the depth of l
 const TRIES = 1000; // to name an element in a list that changes all the time
 const PROBES = 16; // indices that are asked for together
 
+/** Whether a list turned out to be shorter.
+ *  @param {unknown} error */
+const isPastEnd = (error) =>
+  error instanceof Refused && error.number === REFUSALS["index-past-end"];
+
 /** How many elements a list has, without reading it: by asking for elements at some indices.
  *  @param {Client} client
  *  @param {string} document
@@ -24,7 +30,7 @@ const PROBES = 16; // indices that are asked for together
 export async function lengthOf(client, document, list, guess) {
   /** @param {number} index */
   const isThere = (index) => client.sum(document, [...list, index]).then(() => true, (error) => {
-    if (error.number === 9) return false;
+    if (isPastEnd(error)) return false;
     throw error;
   });
   let [low, high] = [0, MOST.log + 1]; // there is an element at `low`, and none at `high`
@@ -88,7 +94,7 @@ export class Filling {
         await this.#settle();
         return { id, index: length + 1 };
       } catch (error) {
-        if (!(error instanceof Refused) || error.number !== 9 || length === 0) throw error;
+        if (!isPastEnd(error) || length === 0) throw error;
         length = await lengthOf(this.#client, this.#document, list, length - 1);
       }
     }
@@ -203,7 +209,7 @@ export class Filling {
     const naming = isNested(item) && this.#name(name, [...list, index + 1]);
     if (naming) naming.catch(() => {}); // an insertion that fails says it
     const [, , id] = await inserting.catch((error) => {
-      this.#failed ??= error.number === 9 ? undefined : error;
+      this.#failed ??= isPastEnd(error) ? undefined : error;
       throw error;
     });
     this.ids.push(id);

@@ -10,6 +10,7 @@
 
 import { Broken, Refused } from "./errors.mjs";
 import { isSimple, parse, print } from "./json.mjs";
+import { REFUSALS } from "./protocol.mjs";
 import { ROOM } from "./runs.mjs";
 
 /** @typedef {import("./operations.mjs").Key} Key */
@@ -209,7 +210,7 @@ class Room {
  *  @param {number} length */
 function taken(exports, length) {
   const at = exports.malloc(BigInt(length));
-  if (at === 0n) throw new Refused(22);
+  if (at === 0n) throw new Refused(REFUSALS["no-memory"]);
   return at;
 }
 
@@ -385,7 +386,7 @@ class Proved {
   #refusal(at) {
     const { buffer, byteOffset } = bytesAt(this.#heap.exports, at, FAULT);
     const [number, last, place] = [...new BigUint64Array(buffer, byteOffset, 3)].map(Number);
-    const refused = new Refused(number, undefined, number === 14 ? last : undefined);
+    const refused = new Refused(number, undefined, number === REFUSALS.forked ? last : undefined);
     return Object.assign(refused, { at: place });
   }
 
@@ -395,7 +396,7 @@ class Proved {
    *  @returns {Answer} */
   ask(request) {
     if (this.#handle === 0n) throw new TypeError("this replica was freed");
-    if (isDeeper(request, DEPTH)) return { reply: new Refused(1).reply };
+    if (isDeeper(request, DEPTH)) return { reply: new Refused(REFUSALS["not-json"]).reply };
     const line = written(request);
     return this.#heap.run(() => {
       const length = this.#heap.put(line);
@@ -436,7 +437,7 @@ class Proved {
       (out, room) => exports.jcrdt_ask(handle, this.#heap.in, BigInt(length), out, room),
       (out, room) => exports.jcrdt_again(handle, out, room));
     const end = text.indexOf("\n");
-    if (end < 0) throw new Refused(22);
+    if (end < 0) throw new Refused(REFUSALS["no-memory"]);
     return [text.slice(0, end), text.slice(end + 1, -1)];
   }
 

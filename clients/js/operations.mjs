@@ -4,6 +4,7 @@ import { Refused, refusalOf } from "./errors.mjs";
 import { isArray, isPlain, parse } from "./json.mjs";
 import { MOST } from "./limits.mjs";
 import { isName } from "./names.mjs";
+import { REFUSALS } from "./protocol.mjs";
 import { checkedInteger, checkedScalar, isText } from "./values.mjs";
 
 /** @typedef {[counter: number, replica: string]} Id The name of an operation. */
@@ -99,11 +100,13 @@ function isOperand(value) {
 export function checkShape(op) {
   const [word, id, front, cursor, mutation] = isArray(op, 5) ? op : [];
   const path = isArray(cursor, 2) ? cursor[0] : undefined;
-  if (word !== "op" || !isArray(path)) throw new Refused(12);
-  if (path.length > MOST.path) throw new Refused(20);
+  if (word !== "op" || !isArray(path)) throw new Refused(REFUSALS["bad-operation"]);
+  if (path.length > MOST.path) throw new Refused(REFUSALS["too-deep"]);
   const isFormed = isId(id) && isFront(front) && isPath(path);
-  if (!isFormed || !isPlaced(cursor) || !isMutation(mutation, cursor)) throw new Refused(12);
-  if (!isAscending(front) || id[0] !== nextCounter(front)) throw new Refused(13);
+  if (!isFormed || !isPlaced(cursor) || !isMutation(mutation, cursor)) {
+    throw new Refused(REFUSALS["bad-operation"]);
+  }
+  if (!isAscending(front) || id[0] !== nextCounter(front)) throw new Refused(REFUSALS["bad-front"]);
 }
 
 // ---- Operations that came in a reply

@@ -6,6 +6,7 @@
 import { Refused } from "./errors.mjs";
 import { isArray } from "./json.mjs";
 import { isId, keysOf } from "./operations.mjs";
+import { REFUSALS } from "./protocol.mjs";
 
 /** @typedef {import("./operations.mjs").Cursor} Cursor */
 /** @typedef {import("./operations.mjs").Id} Id */
@@ -40,11 +41,11 @@ export function writtenOf(place) {
  *  @param {(cursor: any[]) => Cursor} resolve
  *  @returns {any[]} */
 export function requestOf(cursor, resolve) {
-  if (!isArray(cursor) || cursor.length === 0) throw new Refused(2);
+  if (!isArray(cursor) || cursor.length === 0) throw new Refused(REFUSALS["bad-request"]);
   if (cursor[0] !== 0) throw new Refused(typeof cursor[0] === "string" ? 8 : 2);
   let start = 0; // behind the last id
   for (const [at, step] of cursor.entries()) {
-    if (Array.isArray(step) && !isId(step)) throw new Refused(2);
+    if (Array.isArray(step) && !isId(step)) throw new Refused(REFUSALS["bad-request"]);
     if (isId(step)) start = at;
   }
   if (start === 0) return cursor;

@@ -443,7 +443,7 @@ export class Replica {
       for (const [at, op] of made.entries()) this.#history.after(op, befores[at]);
       this.#logAll(made, lines, reply[1]);
       this.#lastPlace = endOf(made[made.length - 1]);
-      if (made.length < befores.length) throw new Refused(22);
+      if (made.length < befores.length) throw new Refused(REFUSALS["no-memory"]);
       return made.map(([, id]) => id);
     });
   }
@@ -484,7 +484,9 @@ export class Replica {
     const list = this.place(cursor);
     const all = [...values];
     const operations = all.map((value) => checkElement(value, list.length));
-    if (![index, count].every((it) => Number.isSafeInteger(it) && it >= 0)) throw new Refused(9);
+    if (![index, count].every((it) => Number.isSafeInteger(it) && it >= 0)) {
+      throw new Refused(REFUSALS["index-past-end"]);
+    }
     const near = this.#elements(list, index, count);
     this.#checkRoom(operations.reduce((sum, it) => sum + it, count));
     return this.group(() => {
@@ -509,7 +511,7 @@ export class Replica {
     /** @type {Id[]} */
     const ids = this.#read("items", [writtenOf(list)]).map((/** @type {[Id]} */ [id]) => id);
     const found = ids.slice(from - 1, from - 1 + length);
-    if (found.length !== length) throw new Refused(9);
+    if (found.length !== length) throw new Refused(REFUSALS["index-past-end"]);
     return found;
   }
 
@@ -898,7 +900,7 @@ const MOST_SINGLY = 256; // so many elements are asked for one by one, and not w
 
 /** @param {any} value */
 function checkedOperand(value) {
-  if (checkValue(value) !== 1 || value instanceof Counter) throw new Refused(6);
+  if (checkValue(value) !== 1 || value instanceof Counter) throw new Refused(REFUSALS["bad-value"]);
   return typeof value === "number" || typeof value === "bigint" ? checkedInteger(value) : bare(value);
 }
 
@@ -924,7 +926,7 @@ function parsedLine(line) {
 /** @param {string} line */
 function readLine(line) {
   const op = parsedLine(line);
-  if (!op) throw new Refused(12);
+  if (!op) throw new Refused(REFUSALS["bad-operation"]);
   return /** @type {Operation} */ (op);
 }
 

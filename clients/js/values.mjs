@@ -3,6 +3,7 @@
 import { Refused } from "./errors.mjs";
 import { isMap, isPlain, kindOf, shortest } from "./json.mjs";
 import { MOST } from "./limits.mjs";
+import { REFUSALS } from "./protocol.mjs";
 
 /** @typedef {import("./operations.mjs").Branches} Branches */
 /** @typedef {import("./operations.mjs").Scalar} Scalar */
@@ -99,7 +100,7 @@ export function checkedInteger(value) {
 }
 
 /** @param {string} why */
-const badValue = (why) => new Refused(6, undefined, undefined, why);
+const badValue = (why) => new Refused(REFUSALS["bad-value"], undefined, undefined, why);
 
 /** Checks a nested value, all of it, before any of it is put. It is what `plain` gives: scalars,
  *  arrays and plain objects, and counters. `undefined` within an object or array is left out, as
@@ -110,7 +111,7 @@ const badValue = (why) => new Refused(6, undefined, undefined, why);
  *  @param {number} [depth] How many keys lead to the place.
  *  @returns {number} */
 export function checkValue(value, depth = 0) {
-  if (depth > MOST.path) throw new Refused(20);
+  if (depth > MOST.path) throw new Refused(REFUSALS["too-deep"]);
   if (value instanceof Counter) {
     const beside = value.value === undefined ? 0 : checkValue(value.value, depth);
     return beside + pieces(checkedSum(value.sum)).length;
@@ -122,7 +123,7 @@ export function checkValue(value, depth = 0) {
   const fields = Object.entries(value).filter(([, inner]) => isGiven(inner));
   const unfit = fields.find(([key]) => !isText(key))?.[0];
   if (unfit !== undefined) {
-    throw new Refused(7, undefined, undefined, whyUnfit(unfit, "key", MOST.key));
+    throw new Refused(REFUSALS["bad-cursor"], undefined, undefined, whyUnfit(unfit, "key", MOST.key));
   }
   return fields.reduce((count, [, inner]) => count + checkValue(inner, depth + 1), 1);
 }

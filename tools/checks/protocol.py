@@ -1,7 +1,8 @@
 """What tools/protocol makes is up to date, and Rust's words, replies, refusals and limits are those of protocol.json.
 
-Rust's are read from `line_proto` (requests by their number of items, and replies), `json_scalar` (refusals), `replica_tests` (a line of
-each request) and the constants that the limits name."""
+Rust's are read from `line_proto` (requests by their number of items, and replies), `replica_c` (what a replica answers), `json_scalar`
+(refusals), `replica_tests` (a line of each request) and the constants that the limits name. The packages name refusals by the lists that
+are made for them: a number by hand is a fault."""
 
 import argparse
 import glob
@@ -18,6 +19,12 @@ PARSERS: Dict[str, Tuple[int, str]] = {
     "short_request": (2, ""), "look_of": (2, "look"), "long_request": (3, ""),
     "read_mutation": (3, "change"),
 }
+# The functions by which replica_c reads requests, with the number of items of these. It reads looks and mutations by line_proto's.
+REPLICA_PARSERS: Dict[str, int] = {"plain_ask": 0, "short_ask": 1, "long_ask": 2}
+
+# The sources of the packages, and a number of a refusal in one.
+PACKAGES = ("clients/js/*.mjs", "clients/hub/*.mjs", "clients/hub/lib/*.mjs", "clients/hub/web/*.mjs", "clients/python/jcrdt/*.py")
+BY_HAND = re.compile(r"\bRefused\(\s*\d|\b(?:error|cause|reply|refusal|refused)\.number\s*(?:[=!]==?|in|not in)\s*[\d({\[]")
 
 
 def source(top: str, crate: str) -> str:
@@ -43,12 +50,17 @@ def differences(what: str, rust: Set[str], table: Set[str]) -> Iterator[str]:
         yield f"{what} {it} is in protocol.json, and not in Rust"
 
 
+def words_of(code: str, name: str) -> Set[str]:
+    """The words of requests that a function names."""
+    return set(re.findall(r'^\s*"(\w+)" =>', function(code, name), re.M))
+
+
 def request_faults(top: str, table: Protocol) -> Iterator[str]:
     """Where line_proto reads other requests."""
     code = source(top, "line_proto")
     found: Set[str] = set()
     for name, (count, kind) in PARSERS.items():
-        words = set(re.findall(r'^\s*"(\w+)" =>', function(code, name), re.M))
+        words = words_of(code, name)
         if not words:
             yield f"line_proto has no function {name} that names requests"
         found |= {f'["{word}"] of {count} items' for word in words}
@@ -56,6 +68,27 @@ def request_faults(top: str, table: Protocol) -> Iterator[str]:
         if kind:
             yield from differences(f"{kind}:", words, due)
     yield from differences("request", found, {f'["{it.word}"] of {len(it.items)} items' for it in table.requests})
+
+
+def replica_faults(top: str, table: Protocol) -> Iterator[str]:
+    """Where replica_c reads other requests."""
+    shared, own = source(top, "line_proto"), source(top, "replica_c")
+    read = [(words_of(shared, "look_of"), 1), (words_of(shared, "read_mutation"), 2)]
+    for name, count in REPLICA_PARSERS.items():
+        words = words_of(own, name)
+        if not words:
+            yield f"replica_c has no function {name} that names requests"
+        read.append((words, count))
+    found = {f'["{word}"] of {count} items' for words, count in read for word in words}
+    yield from differences("replica:", found, {f'["{it.word}"] of {len(it.items)} items' for it in table.of_replica})
+
+
+def hand_faults(top: str, _: Protocol) -> Iterator[str]:
+    """The lines of packages that have a refusal's number."""
+    for path in sorted(it for pattern in PACKAGES for it in glob.glob(f"{top}/{pattern}")):
+        with open(path, encoding="utf-8") as it:
+            lines = it.read().split("\n")
+        yield from (f"{os.path.relpath(path, top)}:{at}: a refusal's number by hand" for at, line in enumerate(lines, 1) if BY_HAND.search(line))
 
 
 def reply_faults(top: str, table: Protocol) -> Iterator[str]:
@@ -117,7 +150,7 @@ def faults(top: str) -> Iterator[str]:
     except ValueError as fault:
         yield str(fault)
         return
-    for look in (request_faults, reply_faults, refusal_faults, tested_faults, limit_faults):
+    for look in (request_faults, replica_faults, reply_faults, refusal_faults, tested_faults, limit_faults, hand_faults):
         yield from look(top, table)
 
 

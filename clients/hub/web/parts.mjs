@@ -144,18 +144,21 @@ export function save(name, text) {
   setTimeout(() => URL.revokeObjectURL(url), 60_000);
 }
 
-const REFUSALS = new Map([
-  [6, "A text has at most 4,096 bytes, which is as many plain letters, and a number 64 bits."],
-  [9, "Another has deleted that place."],
-  [7, "Another has deleted that place."],
-  [18, "The document is full: it takes 100,000 changes. Its content has to be put into a new one."],
-  [19, "The document is full: it takes 256 replicas, and this would be one more. Its content has to"
-    + " be put into a new one."],
+/** What is said of refusals, by their names. */
+const REFUSED = new Map([
+  ["bad-value", "A text has at most 4,096 bytes, which is as many plain letters, and a number 64"
+    + " bits."],
+  ["index-past-end", "Another has deleted that place."],
+  ["bad-cursor", "Another has deleted that place."],
+  ["log-full", "The document is full: it takes 100,000 changes. Its content has to be put into a new"
+    + " one."],
+  ["too-many-replicas", "The document is full: it takes 256 replicas, and this would be one more."
+    + " Its content has to be put into a new one."],
 ]);
 
 /** Why an edit was refused, in words.
  *  @param {unknown} error */
 export function wordsOf(error) {
-  const { number = 0, message = String(error) } = /** @type {any} */ (error);
-  return REFUSALS.get(number) ?? message;
+  const { code = "", message = String(error) } = /** @type {any} */ (error);
+  return REFUSED.get(code) ?? message;
 }

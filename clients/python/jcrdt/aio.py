@@ -21,6 +21,7 @@ from . import generations, loading, mending, nested, wire
 from .generations import Generation
 from .limits import SIGN_SECONDS, USUAL, Limits
 from .line_reader import CHUNK, LineReader, lines_of
+from .protocol import NUMBERS
 from .replies import Reply, chains_in, checked_beginning, front_in, id_in, logged_in, page_in, reply_of
 from .session import FORKED
 from .steps import Steps
@@ -385,7 +386,7 @@ class Session:
             await self.ask("watch", document)
             return True
         except Refused as cause:
-            if cause.number != 2:
+            if cause.number != NUMBERS["bad-request"]:
                 raise
             return False
 

@@ -3,12 +3,15 @@
 import time
 from typing import Iterator, List, Optional
 
+from .protocol import NUMBERS
 from .session import Session, connected
 from .stored_log import FOLLOW_SECONDS, StoredLog
 from .wire import Front, Lost, Operation, Refused, covers, covers_all
 
 # The first pause before a connection is tried again, and the longest, in seconds.
 SHORTEST, LONGEST = 0.2, 5.0
+# What is answered to `stored` where it isn't known that an operation is in the file.
+UNKNOWN = frozenset(NUMBERS[name] for name in ("bad-request", "not-kept"))
 
 
 def followed(address: str, document: str, front: Optional[Front] = None, every: float = 0.5) -> Iterator[Operation]:
@@ -84,7 +87,7 @@ class Disk:
                 self.is_known = True
         except Refused as cause:
             # No hub, or one that doesn't know the file, or what it asked for was lost by a kill.
-            if cause.number not in (2, 104):
+            if cause.number not in UNKNOWN:
                 raise
             if self.is_known or not covers_all(session.front(self.document), last):
                 raise Lost(f"{self.document}: not all that was read is known to be in the file") from None

@@ -23,7 +23,7 @@ from .link import Link, link_to
 from .notes import Notes
 from .pages import serve_pages
 from .operation_log import Known, Listener, Log, Source
-from .protocol import NAME_USED_TWICE
+from .protocol import NAME_USED_TWICE, NUMBERS
 from .pull import pull
 from .relay_health import pages
 from .replies import page_in
@@ -47,17 +47,17 @@ LAST_LINES = 1.0
 # How the reply begins to a delivery that was logged alone.
 APPLIED = b'["applied",1,0,'
 # Refusals that may be none the next time.
-PASSING = frozenset((17, 22))
+PASSING = frozenset(NUMBERS[name] for name in ("held-full", "no-memory"))
 ADVICE = {
-    4: "start the server with this document on its command line",
-    14: "a name was used by two starts: keep one side (GUIDE, \"When two starts had one name\")",
-    15: "a name was used by two starts: keep one side (GUIDE, \"When two starts had one name\")",
-    16: "two servers have one name, or one lacks its file or has an older one: give it a new name",
-    17: "operations wait there for others: `held` names them; the relay delivers again",
-    18: "the document is full: renew it (python3 -m jcrdt renew)",
-    19: "the document has had 256 starts of servers: renew it (python3 -m jcrdt renew)",
-    22: "the server lacks memory; the relay delivers again",
-    103: "the hub doesn't let the relay write",
+    NUMBERS["no-such-document"]: "start the server with this document on its command line",
+    NUMBERS["forked"]: "a name was used by two starts: keep one side (GUIDE, \"When two starts had one name\")",
+    NUMBERS["id-conflict"]: "a name was used by two starts: keep one side (GUIDE, \"When two starts had one name\")",
+    NUMBERS["own-name"]: "two servers have one name, or one lacks its file or has an older one: give it a new name",
+    NUMBERS["held-full"]: "operations wait there for others: `held` names them; the relay delivers again",
+    NUMBERS["log-full"]: "the document is full: renew it (python3 -m jcrdt renew)",
+    NUMBERS["too-many-replicas"]: "the document has had 256 starts of servers: renew it (python3 -m jcrdt renew)",
+    NUMBERS["no-memory"]: "the server lacks memory; the relay delivers again",
+    NUMBERS["not-allowed"]: "the hub doesn't let the relay write",
 }
 BROKEN = "its maker broke the rules: find out which program made it"
 
@@ -514,7 +514,7 @@ class Server(Member):
         place.difference, name = error, place.log.name
         self.is_connected()
         self.troubles.begin(f"{name}: differs", error.replica, f"{self.address}: {name}: left out: from {error.counter} on it has other "
-                            f"operations of {error.replica} than the others: {ADVICE[15]}")
+                            f"operations of {error.replica} than the others: {ADVICE[NUMBERS['id-conflict']]}")
         await self.relay.sleep(LEFT_OUT)
         await place.begin_anew()
 

@@ -141,10 +141,10 @@ class Replica:
     def _open(self, name: bytes, lines: bytes) -> None:
         fault = _Fault()
         number: int = self._library.jcrdt_open(byref(self._handle), name, len(name), lines, len(lines), byref(fault))
-        if number == 22:
+        if number == NUMBERS["no-memory"]:
             raise MemoryError("no memory for the replica")
         if number:
-            last = fault.last if number == 14 else None
+            last = fault.last if number == NUMBERS["forked"] else None
             raise RefusedLine(number, None, last, fault.place)
 
     def __enter__(self) -> "Replica":

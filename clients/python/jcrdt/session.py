@@ -25,6 +25,7 @@ from typing import Any, Deque, Iterable, Iterator, List, Literal, Optional, Sequ
 from . import generations, loading, mending, nested, wire
 from .generations import Generation
 from .limits import SIGN_SECONDS, USUAL, Limits
+from .protocol import NUMBERS
 from .replies import Reply, chains_in, checked_beginning, front_in, id_in, logged_in, page_in, reply_of
 from .steps import Steps
 from .stream import Stream
@@ -352,7 +353,7 @@ class Session:
             self.ask("watch", document)
             return True
         except Refused as cause:
-            if cause.number != 2:
+            if cause.number != NUMBERS["bad-request"]:
                 raise
             return False
 

@@ -176,9 +176,9 @@ def checked_front(value: Any) -> Front:
     """A front in its written form as a dict. Raises Refused: 2 for a wrong pair, 13 where the names
     don't ascend."""
     if not isinstance(value, list) or not all(map(_is_pair, value)):
-        raise Refused(2)
+        raise Refused(NUMBERS["bad-request"])
     if not _ascends(value):
-        raise Refused(13)
+        raise Refused(NUMBERS["bad-front"])
     return dict(value)
 
 
@@ -209,16 +209,16 @@ def checked_operation(value: Any) -> Operation:
     """An operation of the right shape. Raises the Refused that a server answers to another one: 20, 12 or
     13, in this order."""
     if not isinstance(value, list) or len(value) != 5 or value[0] != "op":
-        raise Refused(12)
+        raise Refused(NUMBERS["bad-operation"])
     _, operation_id, front, cursor, mutation = value
     if isinstance(cursor, list) and len(cursor) == 2 and isinstance(cursor[0], list) and len(cursor[0]) > PATH_LIMIT:
-        raise Refused(20)
+        raise Refused(NUMBERS["too-deep"])
     right = (is_id(operation_id) and type(front) is list and all(map(_is_pair, front))
              and _is_placed(cursor) and _is_mutation(mutation, cursor))
     if not right:
-        raise Refused(12)
+        raise Refused(NUMBERS["bad-operation"])
     if len(front) > 1 and not _ascends(front) or operation_id[0] != _greatest(front) + 1:
-        raise Refused(13)
+        raise Refused(NUMBERS["bad-front"])
     return value
 
 
