@@ -1,8 +1,9 @@
 """How the pages at the top and in docs/ are written: the length of lines and table cells, links, and words not to be used.
 
 A line has at most 100 columns and a cell of a table at most 120 characters, both outside ``` blocks; a table's row has no limit
-of its own, and a page none of lines. A link to a file of the repository leads somewhere, and one to a heading to a heading of that page; so do those of other READMEs.
-The words are looked for outside code. A block ```rattle FILE has lines of that file, in their order; `..` stands for what is left out.
+of its own, and a page none of lines. A link to a file of the repository leads somewhere, and one to a heading to a heading of that page.
+All of this holds of other READMEs, too, and what follows of these pages alone. The words are looked for outside code. A block
+```rattle FILE has lines of that file, in their order; `..` stands for what is left out.
 docs/CRATES.md has a row for each crate, and docs/ARCHITECTURE.md for each file of a package. What the pages say of the time of
 `./test quick` is what `./test` says itself, and docs/VERIFICATION.md has the number of planted bugs of each folder."""
 
@@ -67,9 +68,8 @@ def cells(line: str) -> List[str]:
 @functools.lru_cache(maxsize=None)
 def headings(page: str) -> FrozenSet[str]:
     """The names by which a link leads to the headings of a page: small letters, hyphens for blanks, no other marks."""
-    with open(page, encoding="utf-8") as it:
-        text = blank(r"(?ms)^ *```.*?^ *```[ ]*$", it.read())
-    return frozenset(re.sub(r"[^\w -]", "", it.strip().lower()).replace(" ", "-") for it in re.findall(r"(?m)^#+ (.*)$", text))
+    found = re.findall(r"(?m)^#+ (.*)$", outside_code(page))
+    return frozenset(re.sub(r"[^\w -]", "", it.strip().lower()).replace(" ", "-") for it in found)
 
 
 def leads_somewhere(target: str, heading: str) -> bool:
@@ -81,28 +81,32 @@ def leads_somewhere(target: str, heading: str) -> bool:
 
 def link_faults(top: str, page: str) -> Iterator[str]:
     """The links of a page that lead nowhere."""
-    with open(page, encoding="utf-8") as it:
-        text = blank(r"(?ms)^ *```.*?^ *```[ ]*$", it.read())
-    for number, line in enumerate(text.split("\n"), 1):
+    for number, line in enumerate(outside_code(page).split("\n"), 1):
         for target, heading in re.findall(r"\]\(([^)#\s]*)(?:#([^)\s]*))?\)", line):
             if not leads_somewhere(os.path.join(os.path.dirname(page), target) if target else page, heading):
                 yield f"{os.path.relpath(page, top)}:{number}: the link {target}{'#' if heading else ''}{heading} leads nowhere"
 
 
-def faults(top: str, page: str) -> Iterator[str]:
-    """What is wrong with a page, as texts that begin with its name and a line's number."""
-    name = os.path.relpath(page, top)
+def outside_code(page: str) -> str:
+    """The text of a page with blanks in place of its ``` blocks."""
     with open(page, encoding="utf-8") as it:
-        text = it.read()
-    text = blank(r"(?ms)^ *```.*?^ *```[ ]*$", text)
-    for number, line in enumerate(text.split("\n"), 1):
-        at = f"{name}:{number}"
+        return blank(r"(?ms)^ *```.*?^ *```[ ]*$", it.read())
+
+
+def length_faults(top: str, page: str) -> Iterator[str]:
+    """The lines and the cells of tables that are too long."""
+    for number, line in enumerate(outside_code(page).split("\n"), 1):
+        at = f"{os.path.relpath(page, top)}:{number}"
         if line.startswith("|"):
             yield from (f"{at}: a cell of {len(it)} characters" for it in cells(line) if len(it) > CELL)
         elif len(line.rstrip()) > COLUMNS:
             yield f"{at}: {len(line)} columns"
-    yield from link_faults(top, page)
-    text = blank(r"`[^`]*`|\]\([^)]*\)", text)
+
+
+def word_faults(top: str, page: str) -> Iterator[str]:
+    """The words that are not to be used."""
+    name = os.path.relpath(page, top)
+    text = blank(r"`[^`]*`|\]\([^)]*\)", outside_code(page))
     for allowed in ALLOWED:
         text = blank(phrase(allowed), text)
     for words, wanted in WORDS:
@@ -187,12 +191,13 @@ def check(words: argparse.Namespace) -> int:
     bad = len(missing)
     pages = [*(f"{words.top}/{it}" for it in TOP_PAGES), *sorted(glob.glob(f"{words.top}/docs/*.md"))]
     for page in filter(os.path.isfile, pages):
-        for fault in dict.fromkeys((*faults(words.top, page), *quote_faults(words.top, page))):
+        looks = (length_faults, link_faults, word_faults, quote_faults)
+        for fault in dict.fromkeys(it for look in looks for it in look(words.top, page)):
             print(fault)
             bad += 1
     others = glob.glob(f"{words.top}/*/README.md") + glob.glob(f"{words.top}/clients/*/README.md")
-    linking = [fault for page in sorted(others) for fault in link_faults(words.top, page)]
-    for fault in linking if missing else (*linking, *crate_faults(words.top), *map_faults(words.top), *minute_faults(words.top), *edit_faults(words.top)):
+    written = [fault for page in sorted(others) for look in (length_faults, link_faults) for fault in look(words.top, page)]
+    for fault in written if missing else (*written, *crate_faults(words.top), *map_faults(words.top), *minute_faults(words.top), *edit_faults(words.top)):
         print(fault)
         bad += 1
     print(f"{len(pages)} pages, {bad} faults")
