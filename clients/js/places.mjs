@@ -69,15 +69,6 @@ function resolved(cursor, resolve) {
   return place;
 }
 
-/** The cursor of the list that an element's or head's request is about.
- *  @param {any[]} request As `requestOf` makes it.
- *  @returns {any[]} */
-export function parentOf(request) {
-  if (request.length > 1) return request.slice(0, -1);
-  const [path] = request[0];
-  return [[path.slice(0, -1), path[path.length - 1][1]]];
-}
-
 /** Where an operation ends: an insertion at the element that it makes.
  *  @param {Operation} op
  *  @returns {Cursor} */

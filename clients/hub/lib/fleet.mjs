@@ -74,7 +74,7 @@ const entryOf = ({ generation, digest }) => `${generation} ${digest}`;
 
 /** @param {string} entry @returns {Decision}
  *  @throws {Error} for what is none: a generation is part of a file's name */
-export function decisionOf(entry) {
+function decisionOf(entry) {
   const [, generation = "", digest = ""] = ENTRY.exec(entry) ?? [];
   if (!generation) throw new Error("Redis has something else in place of a generation");
   return { generation, digest };

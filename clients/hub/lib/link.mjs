@@ -5,7 +5,7 @@ import { LineCutter } from "./cutter.mjs";
 import { MOST, addressParts, refusalLine } from "./client_package.mjs";
 
 /** The line was sent, and no reply came: it may have been carried out. */
-export const UNANSWERED = Symbol("unanswered");
+const UNANSWERED = Symbol("unanswered");
 /** The line wasn't sent: it wasn't carried out. */
 export const NOT_SENT = Symbol("not sent");
 /** @typedef {string | typeof UNANSWERED | typeof NOT_SENT} Answer */

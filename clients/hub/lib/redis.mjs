@@ -16,7 +16,7 @@ const WRONG = "redis is HOST:PORT or a URL";
 const LINE_END = "\r\n";
 
 /** What Redis refuses. */
-export class RedisError extends Error {
+class RedisError extends Error {
   name = "RedisError";
 }
 

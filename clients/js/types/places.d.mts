@@ -7,10 +7,6 @@ export function writtenOf(place: import("./operations.mjs").Cursor): [import("./
  *  @param {(cursor: any[]) => Cursor} resolve
  *  @returns {any[]} */
 export function requestOf(cursor: import("./operations.mjs").Cursor, resolve: (cursor: any[]) => import("./operations.mjs").Cursor): any[];
-/** The cursor of the list that an element's or head's request is about.
- *  @param {any[]} request As `requestOf` makes it.
- *  @returns {any[]} */
-export function parentOf(request: any[]): any[];
 /** Where an operation ends: an insertion at the element that it makes.
  *  @param {Operation} op
  *  @returns {Cursor} */

@@ -31,8 +31,6 @@ class Size(NamedTuple):
 
 # The longest line that a server takes, in bytes without its newline. A longer one ends the session.
 LINE_LIMIT = LIMITS["line"]
-# The longest reply that a client of this package reads, in bytes. A `show` of a full document may be long.
-REPLY_LIMIT = 256 << 20
 # A document takes so many operations, of so many replicas, and holds so many more.
 OPERATION_LIMIT, REPLICA_LIMIT, HELD_LIMIT = LIMITS["log"], LIMITS["replicas"], LIMITS["held"]
 PATH_LIMIT, KEY_BYTES, TEXT_BYTES = LIMITS["path"], LIMITS["key"], LIMITS["value"]
@@ -125,11 +123,6 @@ def decoded_reply(line: bytes) -> List[Any]:
                                  and isinstance(reply[2], str)):
         raise ValueError("it is no refusal: a number and a name are missing")
     return reply
-
-
-def is_push(reply: Sequence[Any]) -> bool:
-    """Whether a line of a hub answers no request, by its first word."""
-    return reply[0] in PUSHES
 
 
 def is_push_line(line: bytes) -> bool:
