@@ -4,8 +4,9 @@ A line has at most 100 columns and a cell of a table at most 120 characters, bot
 of its own, and a page none of lines. A link to a file of the repository leads somewhere, and one to a heading to a heading of that page.
 All of this holds of other READMEs, too, and what follows of these pages alone. The words are looked for outside code. A block
 ```rattle FILE has lines of that file, in their order; `..` stands for what is left out.
-docs/CRATES.md has a row for each crate, and docs/ARCHITECTURE.md for each file of a package. What the pages say of the time of
-`./test quick` is what `./test` says itself, and docs/VERIFICATION.md has the number of planted bugs of each folder."""
+docs/CRATES.md has a row for each crate, docs/ARCHITECTURE.md for each file of a package, and the README of tests/, tools/ and bench/
+for each command there. What the pages say of the time of `./test quick` is what `./test` says itself, and docs/VERIFICATION.md has the
+number of planted bugs of each folder."""
 
 import argparse
 import collections
@@ -152,6 +153,24 @@ def map_faults(top: str) -> Iterator[str]:
             yield from (f"docs/ARCHITECTURE.md: there is no clients/{folder}/{it}" for it in sorted(mapped - files) if not it.startswith("test_"))
 
 
+def command_faults(top: str) -> Iterator[str]:
+    """The commands of tests/, tools/ and bench/ that their README has no row for, and those that it has and that aren't there."""
+    for folder in ("tests", "tools", "bench"):
+        page = f"{folder}/README.md"
+        with open(f"{top}/{page}", encoding="utf-8") as it:
+            listed = set(re.findall(rf"(?m)^\| `({folder}/[\w/-]+)", it.read()))
+        files = (os.path.relpath(it, top) for pattern in ("*", "*/*") for it in glob.glob(f"{top}/{folder}/{pattern}"))
+        here = {it for it in files if os.path.isfile(f"{top}/{it}") and is_command(f"{top}/{it}")}
+        yield from (f"{page}: {it} has no row" for it in sorted(here - listed))
+        yield from (f"{page}: there is no {it}" for it in sorted(listed - here))
+
+
+def is_command(path: str) -> bool:
+    """Whether a file says what runs it."""
+    with open(path, "rb") as it:
+        return it.read(2) == b"#!"
+
+
 def minute_faults(top: str) -> Iterator[str]:
     """The pages that give another time of `./test quick` than `./test` does. docs/HACKING.md gives one."""
     with open(f"{top}/test", encoding="utf-8") as it:
@@ -197,7 +216,7 @@ def check(words: argparse.Namespace) -> int:
             bad += 1
     others = glob.glob(f"{words.top}/*/README.md") + glob.glob(f"{words.top}/clients/*/README.md")
     written = [fault for page in sorted(others) for look in (length_faults, link_faults) for fault in look(words.top, page)]
-    for fault in written if missing else (*written, *crate_faults(words.top), *map_faults(words.top), *minute_faults(words.top), *edit_faults(words.top)):
+    for fault in written if missing else (*written, *crate_faults(words.top), *map_faults(words.top), *command_faults(words.top), *minute_faults(words.top), *edit_faults(words.top)):
         print(fault)
         bad += 1
     print(f"{len(pages)} pages, {bad} faults")
