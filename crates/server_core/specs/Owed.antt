@@ -36,8 +36,8 @@ module _ (origin : ℕ → Origin) where
 
   -- A seat of the document of this number among these, for which so much is owed that what was
   -- acknowledged to it is stored before a reply goes out.
-  abbrev pub HasSeat : List (List ℕ) → Owing → ℕ → Seat → Type 0
-  HasSeat names owing number s =
+  abbrev pub IsSeatOwed : List (List ℕ) → Owing → ℕ → Seat → Type 0
+  IsSeatOwed names owing number s =
       (number < length names) × (s.number ≡ number) × (0 < s.seat)
       × IsOwed number s.seat s.told (owes owing number)
 
