@@ -43,6 +43,9 @@
                                     with the front from before
      any other                      nothing
 
+   Behind N is how many held operations were dropped: they don't fit, or memory lacked. They aren't
+   logged.
+
    An operation is held if it comes before one that its maker had seen. Who delivers another log in
    its order has none held. examples/trip.c is a program with files that does all this, and
    examples/store.c a file with a lock, to copy: two programs that append to one file would give an
@@ -58,7 +61,8 @@
    What a caller owes: a handle is a jcrdt that only these functions change, and it isn't copied
    while it is open. One thread at a time uses a handle. No pointer is NULL, not even to no bytes.
    The arrays of a call don't overlap. Lengths are in bytes. Nothing here is called from a signal
-   handler. malloc, realloc and free are of one allocator. */
+   handler. malloc, realloc and free are of one allocator. A call leaves 128 kB of stack below it:
+   an ordinary request takes some 23 kB, and a line of a peer may have objects within objects. */
 
 #ifndef JCRDT_H
 #define JCRDT_H
