@@ -1,18 +1,23 @@
-"""What tests/page-programs breaks programs with: a server and a hub that are killed and start again, and a disk that is full for a
-moment; and the count of what was confirmed."""
+"""What tests/page-programs and tests/example-stores share: a fresh clone; a server and a hub that are killed and start again, and a
+disk that is full for a moment; programs that answer commands; and the count of what was confirmed."""
 
 import contextlib
+import json
 import os
 import random
 import socket
 import subprocess
+import sys
 import tempfile
 import threading
 import time
 from types import TracebackType
-from typing import Callable, Counter, Dict, Iterator, List, Optional, Sequence, Set, Type
+from typing import Any, Callable, Counter, Dict, Iterator, List, Optional, Sequence, Set, Type
 
-from support import Differs, Lacks, wait_until
+from support import TOP, Differs, Lacks, require, wait_until
+
+sys.path.insert(0, f"{TOP}/clients/python")
+import jcrdt  # noqa: E402
 
 # For what a busy machine takes its time for.
 PATIENCE = 240.0
@@ -20,6 +25,20 @@ PATIENCE = 240.0
 SMALL_DISK = 1_500_000
 # Before a program that has ended is started again.
 PAUSE = 0.2
+# What the programs need of a tree that is no repository.
+PARTS = ("clients", "docs", "examples", "include", "release", "protocol.json", "package.json", "README.md")
+
+
+def cloned(room: str) -> str:
+    """A fresh clone of the last commit; the files as they are where there is no repository."""
+    clone = f"{room}/clone"
+    if os.path.exists(f"{TOP}/.git"):
+        require("git")
+        subprocess.run(["git", "clone", "-q", "--shared", TOP, clone], check=True)
+        return clone
+    os.mkdir(clone)
+    subprocess.run(["cp", "-a", *(f"{TOP}/{it}" for it in PARTS), clone], check=True)
+    return clone
 
 
 def free_port() -> int:
@@ -76,6 +95,20 @@ class Stage:
         self.server.stop()
 
 
+def read_at_last(stage: Stage, read: Callable[[jcrdt.Session], Any]) -> Any:
+    """What a session reads, as soon as there is one."""
+    found: List[Any] = []
+
+    def has_read() -> bool:
+        with contextlib.suppress(ConnectionError), jcrdt.connected(stage.at) as session:
+            session.open(stage.document)
+            found.append(read(session))
+        return bool(found)
+
+    wait_until("the server is read", has_read)
+    return found[-1]
+
+
 class SmallDisk:
     """A disk of a few megabytes, if one can be mounted, and what fills it."""
 
@@ -103,6 +136,34 @@ def small_disk() -> Iterator[SmallDisk]:
             yield SmallDisk(folder)
         finally:
             subprocess.run(["umount", "-l", folder], check=True)
+
+
+class Driver:
+    """A program that answers each command, a line of JSON, by a line."""
+
+    def __init__(self, *words: str) -> None:
+        self.process = subprocess.Popen(["node", *words], stdin=subprocess.PIPE, stdout=subprocess.PIPE, stderr=subprocess.DEVNULL)
+        self.lock = threading.Lock()
+
+    def reply(self) -> Any:
+        """The next reply; nothing once the program has ended."""
+        assert self.process.stdout
+        line = self.process.stdout.readline()
+        return json.loads(line) if line.endswith(b"\n") else None
+
+    def ask(self, *command: object) -> Any:
+        with self.lock:
+            assert self.process.stdin
+            with contextlib.suppress(BrokenPipeError, ValueError):  # it has ended, or was closed
+                self.process.stdin.write(json.dumps(command).encode() + b"\n")
+                self.process.stdin.flush()
+            return self.reply()
+
+    def end(self) -> None:
+        assert self.process.stdin
+        with contextlib.suppress(BrokenPipeError):
+            self.process.stdin.close()
+        self.process.wait(PATIENCE)
 
 
 class Count:
