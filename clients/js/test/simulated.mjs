@@ -1,6 +1,7 @@
 /* A server, or a hub before it, within this program, and programs with stores in files. Each line, kill and pause
    comes when the dice say so: the same seed does the same again. Isn't run by itself. */
 
+import { webcrypto } from "node:crypto"; // the global one, which Node 18 hasn't
 import { readFileSync, writeFileSync } from "node:fs";
 import { Replica } from "../replica.mjs";
 import { Provider } from "../provider.mjs";
@@ -24,7 +25,7 @@ export function seedNames(seed) {
   const next = random(seed);
   /** @param {any} bytes */
   const fill = (bytes) => bytes.map(() => Math.floor(next() * 256));
-  Object.defineProperty(globalThis.crypto, "getRandomValues", {
+  Object.defineProperty(webcrypto, "getRandomValues", {
     configurable: true, value: (/** @type {any} */ bytes) => (bytes.set(fill(bytes)), bytes),
   });
 }
