@@ -1,7 +1,7 @@
 """The edits that HACKING's recipe "add a request" asks for, for a request of each kind that `tests/recipe` adds.
 
-`["ping"]` names no document. `["total",doc,CUR]` is a look that replies what `sum` does. `["count",doc]` reads how many operations the
-document has logged. Of `["drop",doc]`, a change, only the table knows: its other places are those of `forget`."""
+`["hello"]` names no document. `["total",doc,CUR]` is a look that replies what `sum` does. `["count",doc]` reads how many operations the
+document has logged. recipe_change.py has the edits for a change."""
 
 from typing import List, NamedTuple, Tuple
 
@@ -46,45 +46,45 @@ EDITS_COUNT = "| `crates/*/must-fail` | {N} |", "| `crates/*/must-fail` | {N+1} 
 
 # ---- Without a document.
 
-REQUESTS = "Request.TheVariants.{Quit, Version, Of}", "Request.TheVariants.{Quit, Version, Ping, Of}"
-LINE_REPLIES = "{Opened, Bound, Version, Bye}", "{Opened, Bound, Version, Pong, Bye}"
+REQUESTS = "Request.TheVariants.{Quit, Version, Of}", "Request.TheVariants.{Quit, Version, Hello, Of}"
+LINE_REPLIES = "{Opened, Bound, Version, Bye}", "{Opened, Bound, Version, Welcome, Bye}"
 
 BARE = [
-    entry("bare", "version", '{"word": "ping", "kind": "bare", "items": [], "replies": ["pong"], "says": ["`[\\"pong\\"]`"]}'),
-    *clients("bare", behind('  version = async () => (await this.ask("version"))[0];\n', '  ping = async () => void (await this.ask("ping"));\n'),
-             behind('        return int(self.ask("version")[0])\n', '\n    def ping(self) -> None:\n        self.ask("ping")\n'),
-             ("  await client.ping();\n", "def test_ping(alice: Session) -> None:\n    alice.ping()")),
+    entry("bare", "version", '{"word": "hello", "kind": "bare", "items": [], "replies": ["welcome"], "says": ["`[\\"welcome\\"]`"]}'),
+    *clients("bare", behind('  version = async () => (await this.ask("version"))[0];\n', '  hello = async () => void (await this.ask("hello"));\n'),
+             behind('        return int(self.ask("version")[0])\n', '\n    def hello(self) -> None:\n        self.ask("hello")\n'),
+             ("  await client.hello();\n", "def test_hello(alice: Session) -> None:\n    alice.hello()")),
     Edit("bare", 3, LINES, ["kind_of", "REQUESTS", "its length", "a reply"], [
-        behind('        Request::Version => "version",\n', '        Request::Ping => "ping",\n'),
+        behind('        Request::Version => "version",\n', '        Request::Hello => "hello",\n'),
         LENGTH,
-        behind('    ("[\\"version\\"]", "version"),\n', '    ("[\\"ping\\"]", "ping"),\n'),
+        behind('    ("[\\"version\\"]", "version"),\n', '    ("[\\"hello\\"]", "hello"),\n'),
         behind('    assert!(rt; is_written_as(rt.alloc(), LineReply::Version, "[\\"version\\",2]\\n"));\n',
-               '    assert!(rt; is_written_as(rt.alloc(), LineReply::Pong, "[\\"pong\\"]\\n"));\n')]),
-    Edit("bare", 4, "docs/FORMATS.md", ["an example"], [behind('["version"]\n    ["version",2]\n', '["ping"]\n    ["pong"]\n')]),
-    Edit("bare", 4, f"{ROW}/ping/stdin", [f"{ROW}/version_2-version"], [('["version"]', '["ping"]')]),
-    Edit("bare", 4, f"{ROW}/ping/stdout", [f"{ROW}/version_2-version"], [('["version",2]', '["pong"]')]),
-    Edit("bare", 4, "crates/session_core/must-fail/ping_ends_the_session.edit", ["planted bug"], [
-        ("", "breaks: Session::answer_request\nfile: src/session.rt\nold: Request::Ping => LineReply::Pong,\nnew: Request::Ping => LineReply::Bye,\n")]),
+               '    assert!(rt; is_written_as(rt.alloc(), LineReply::Welcome, "[\\"welcome\\"]\\n"));\n')]),
+    Edit("bare", 4, "docs/FORMATS.md", ["an example"], [behind('["version"]\n    ["version",2]\n', '["hello"]\n    ["welcome"]\n')]),
+    Edit("bare", 4, f"{ROW}/hello/stdin", [f"{ROW}/version_2-version"], [('["version"]', '["hello"]')]),
+    Edit("bare", 4, f"{ROW}/hello/stdout", [f"{ROW}/version_2-version"], [('["version",2]', '["welcome"]')]),
+    Edit("bare", 4, "crates/session_core/must-fail/hello_ends_the_session.edit", ["planted bug"], [
+        ("", "breaks: Session::answer_request\nfile: src/session.rt\nold: Request::Hello => LineReply::Welcome,\nnew: Request::Hello => LineReply::Bye,\n")]),
     Edit("bare", 4, "docs/VERIFICATION.md", ["VERIFICATION"], [EDITS_COUNT]),
-    Edit("bare", 6, "crates/line_proto/src/request.rt", ["variants"], [behind("    Version,\n", "    /// Whether the session is there.\n    Ping,\n")]),
+    Edit("bare", 6, "crates/line_proto/src/request.rt", ["variants"], [behind("    Version,\n", "    /// Whether the session is there.\n    Hello,\n")]),
     Edit("bare", 6, "crates/line_proto/src/line_reply.rt", ["variants", "Drop"], [
-        behind("    Version,\n", "    /// The session is there.\n    Pong,\n"),
-        behind("            LineReply::Version => {}\n", "            LineReply::Pong => {}\n")]),
+        behind("    Version,\n", "    /// The session is there.\n    Welcome,\n"),
+        behind("            LineReply::Version => {}\n", "            LineReply::Welcome => {}\n")]),
     Edit("bare", 7, "crates/line_proto/specs/Written.antt", ["request_data"], [
-        REQUESTS, behind('request_data Version = list_data (string (codes "version") ∷ [])\n', 'request_data Ping = list_data (string (codes "ping") ∷ [])\n')]),
+        REQUESTS, behind('request_data Version = list_data (string (codes "version") ∷ [])\n', 'request_data Hello = list_data (string (codes "hello") ∷ [])\n')]),
     Edit("bare", 7, "crates/line_proto/specs/Reading.antt", ["bare_requests"], [
-        REQUESTS, ('(codes "version", Version) ∷ []', '(codes "version", Version) ∷ (codes "ping", Ping) ∷ []')]),
+        REQUESTS, ('(codes "version", Version) ∷ []', '(codes "version", Version) ∷ (codes "hello", Hello) ∷ []')]),
     Edit("bare", 7, "crates/line_proto/specs/Replies.antt", ["line_reply_data"], [
         LINE_REPLIES, behind('line_reply_data Version = worded (codes "version") (count_data 2 ∷ [])\n',
-                             'line_reply_data Pong = worded (codes "pong") []\n')]),
-    Edit("bare", 8, "crates/line_proto/src/parse.rt", ["bare_request"], [behind('        "quit" => Some(Request::Quit),\n', '        "ping" => Some(Request::Ping),\n')]),
+                             'line_reply_data Welcome = worded (codes "welcome") []\n')]),
+    Edit("bare", 8, "crates/line_proto/src/parse.rt", ["bare_request"], [behind('        "quit" => Some(Request::Quit),\n', '        "hello" => Some(Request::Hello),\n')]),
     Edit("bare", 8, "crates/line_proto/src/write.rt", ["own_line"], [
-        behind('        LineReply::Version => numbered("[\\"version\\",", VERSION),\n', '        LineReply::Pong => fixed("[\\"pong\\"]\\n"),\n')]),
+        behind('        LineReply::Version => numbered("[\\"version\\",", VERSION),\n', '        LineReply::Welcome => fixed("[\\"welcome\\"]\\n"),\n')]),
     Edit("bare", 9, "crates/session_rules/specs/Session.antt", ["Serves"], [
         REQUESTS, behind("  Serves s Version response t = (response ≡ line_reply.Version) × (t ≡ s)\n",
-                         "  Serves s Ping response t = (response ≡ line_reply.Pong) × (t ≡ s)\n")]),
+                         "  Serves s Hello response t = (response ≡ line_reply.Welcome) × (t ≡ s)\n")]),
     Edit("bare", 9, "crates/session_core/src/session.rt", ["answer_request"], [
-        behind("            Request::Version => LineReply::Version,\n", "            Request::Ping => LineReply::Pong,\n")]),
+        behind("            Request::Version => LineReply::Version,\n", "            Request::Hello => LineReply::Welcome,\n")]),
 ]
 
 # ---- A reading at a cursor.
@@ -178,7 +178,7 @@ STATE = [
                              '  count = async (document) => (await this.ask("count", document))[0];\n'),
              behind('        return int(self.ask("account", document)[0])\n',
                     '\n    def count(self, document: str) -> int:\n        return int(self.ask("count", document)[0])\n'),
-             ('  equal(await client.count("d"), 0);\n', 'def test_count(alice: Session) -> None:\n    assert alice.count("d") == 0')),
+             ('  equal(await client.count("d"), (await client.size("d")).logged);\n', 'def test_count(alice: Session) -> None:\n    assert alice.count("d") == 0')),
     Edit("state", 3, LINES, ["kind_of", "REQUESTS", "its length", "a reply"], [
         behind('        State::Account => "account",\n', '        State::Count => "count",\n'),
         LENGTH,
@@ -210,12 +210,6 @@ STATE = [
         ("    // The held operations, and what each waits for.\n    fn waiting", COUNT_READ)]),
     Edit("state", 17, "crates/replica_core/proofs/body/Body/read_state/Answers.antt", ["read_state"], [
         behind("returns-in-Held-clause-answer c name = rw c.in-Held.is (c.waiting.ensures name c.args.counts)\n", COUNT_ANSWER)]),
-]
-
-# ---- A change: what the table alone says of it.
-
-CHANGE = [
-    entry("change", "ops", '{"word": "drop", "kind": "change", "items": ["doc"], "replies": ["dropped"], "says": ["`[\\"dropped\\"]`"]}'),
 ]
 
 EDITS = [*BARE, *LOOK, *STATE]

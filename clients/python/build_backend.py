@@ -1,9 +1,12 @@
 """Builds the wheel of this package with the standard library alone, so that it needs no network and no other package.
 
-`pip install` and `pip wheel` call it (PEP 517). pyproject.toml has all that it says of the package. The same sources
-give the same bytes. On x86-64 and ARM64 Linux the wheel has libjcrdt.so, by which `jcrdt.replica` works, and is for
-such machines alone; elsewhere, and where there is no release, it is for all. A wheel for another platform than this
-one: `pip wheel . --config-settings platform=linux-aarch64`.
+`pip install` and `pip wheel` call it (PEP 517). setuptools they would fetch anew for each build, also where Debian's
+is installed, unless they are told not to (`--no-build-isolation`): without a network `pip install .` would fail.
+
+pyproject.toml has all that it says of the package. The same sources give the same bytes. On x86-64 and ARM64 Linux the
+wheel has libjcrdt.so, by which `jcrdt.replica` works, and is for such machines alone; elsewhere, and where there is no
+release, it is for all. A wheel for another platform than this one: `pip wheel . --config-settings
+platform=linux-aarch64`.
 """
 
 import ast
