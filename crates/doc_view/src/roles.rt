@@ -30,7 +30,7 @@ use presence_set::rank_of;
 use std::alloc::Global;
 
 /// What an operation put at a place, if it put a value there.
-pub enum PutValue<'a> {
+enum PutValue<'a> {
     Nothing,
     EmptyMap,
     EmptyList,

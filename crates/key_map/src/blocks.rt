@@ -40,7 +40,7 @@ impl SearchHint {
 }
 
 /// Some entries of a map, in the order of their keys.
-pub struct Block<V> {
+pub(crate) struct Block<V> {
     entries: Vec<(Key, V)>,
 }
 
@@ -65,7 +65,7 @@ impl<V: Drop> Drop for Block<V> {
 /// keys and values, and the blocks, with nothing in place of those that are gone.
 pub struct KeyBlocks<V> {
     /// The blocks.
-    pub blocks: Vec<Block<V>>,
+    pub(crate) blocks: Vec<Block<V>>,
     /// Whether a block is gone. It may be shorter than the blocks, and
     /// those past its end aren't gone.
     pub gone: Vec<bool>,

@@ -26,7 +26,7 @@ const FIRST_CUT: usize = 128;
 
 /// Whether the id of a slot is present, and the block that the slot is in.
 #[derive(Clone, Copy)]
-pub struct Mark {
+pub(crate) struct Mark {
     pub is_present: bool,
     pub block: usize,
 }
@@ -34,7 +34,7 @@ pub struct Mark {
 /// How many ids of a block are present, the slot behind the block, and a counter that
 /// none of the block's ids is below.
 #[derive(Clone, Copy)]
-pub struct MarkBlock {
+pub(crate) struct MarkBlock {
     pub present: usize,
     pub end: Option<SlotNumber>,
     pub least_counter: u64,
@@ -55,8 +55,8 @@ struct NextCuts {
 /// behind the last block are in none.
 #[derive(Drop)]
 pub struct Marks {
-    pub by_slot: Vec<Mark>,
-    pub blocks: Vec<MarkBlock>,
+    pub(crate) by_slot: Vec<Mark>,
+    pub(crate) blocks: Vec<MarkBlock>,
     /// How many ids are present.
     pub present: usize,
     next_cuts: NextCuts,
@@ -98,7 +98,7 @@ impl Marks {
     }
 
     /// The mark of a slot.
-    pub fn at(&self, n: SlotNumber) -> Mark
+    pub(crate) fn at(&self, n: SlotNumber) -> Mark
         requires { n.0 < length self.now.by_slot.items }
         ensures { result ≡ Spec.mark_at self.now.by_slot.items n }
     {

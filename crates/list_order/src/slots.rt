@@ -20,7 +20,7 @@ pub struct SlotNumber(pub usize);
 
 /// An id of the list, and the slot of the id after it.
 #[derive(Clone, Copy)]
-pub struct Slot {
+pub(crate) struct Slot {
     pub id: Id,
     pub next: Option<SlotNumber>,
 }
@@ -29,7 +29,7 @@ pub struct Slot {
 #[derive(Drop)]
 pub struct Chain {
     /// In the order in which they came.
-    pub slots: Vec<Slot>,
+    pub(crate) slots: Vec<Slot>,
     pub first: Option<SlotNumber>,
 }
 
