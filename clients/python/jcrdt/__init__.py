@@ -16,4 +16,4 @@ from .writes import Writes
 __all__ = ["Away", "Conflict", "Counter", "Desk", "DocumentState", "Generation", "Lost", "Refused", "Renewed", "Session", "Size",
            "StoredLog", "Writes", "connected", "covers", "followed", "followed_file", "front_after", "front_on_disk", "generation_of",
            "plain", "program", "serving", "settled", "started"]
-__version__ = "1.4.2"
+__version__ = "1.4.3"
