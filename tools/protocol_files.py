@@ -9,11 +9,14 @@ An entry of `requests` has
 - `replica`, if a replica inside a program answers it too, without the document's name.
 - `optional`: what may follow the items, all of it or nothing. The second text of `says` is about that form.
 
-A limit's `constant` is the crate that states it in `src/`, and its name there."""
+A limit's `constant` is the crate that states it in `src/`, and its name there. protocol_options.py says what an option has."""
 
 import json
 import re
 from typing import Any, Dict, List, NamedTuple, Sequence, Tuple
+
+import protocol_options
+from protocol_options import HUB_TABLE, SERVER_PAGE, HubOption, ServerOption
 
 TABLE = "protocol.json"
 # The kinds of requests, and what those of a server do.
@@ -91,6 +94,8 @@ class Protocol(NamedTuple):
     hub_refusals: List[Refusal]
     refusal_groups: List[Group]
     limits: List[Limit]
+    server_options: List[ServerOption]
+    hub_options: List[HubOption]
 
     @property
     def of_replica(self) -> List[Request]:
@@ -119,7 +124,7 @@ def faults(table: Protocol) -> List[str]:
     found += [f"{group.name}: {it} is no refusal" for group in table.refusal_groups for it in group.refusals if it not in names]
     for request in (*table.requests, *table.hub_requests):
         found += request_faults(request)
-    return found
+    return found + protocol_options.faults(table.server_options, table.hub_options)
 
 
 def request_faults(request: Request) -> List[str]:
@@ -141,7 +146,8 @@ def read(top: str) -> Protocol:
     requests = [[request_of(it) for it in groups[name]] for name in ("requests", "hub_requests", "replica_requests")]
     refusals = [[Refusal(**it) for it in groups[name]] for name in ("refusals", "hub_refusals")]
     table = Protocol(requests[0], requests[1], requests[2], [Push(**it) for it in groups["pushes"]], refusals[0], refusals[1],
-                     [Group(it["name"], tuple(it["refusals"]), it["says"]) for it in groups["refusal_groups"]], [Limit(**it) for it in groups["limits"]])
+                     [Group(it["name"], tuple(it["refusals"]), it["says"]) for it in groups["refusal_groups"]], [Limit(**it) for it in groups["limits"]],
+                     protocol_options.server_options(groups["server_options"]), protocol_options.hub_options(groups["hub_options"]))
     wrong = faults(table)
     if wrong:
         raise ValueError("; ".join(wrong))
@@ -285,8 +291,12 @@ def rows_of(requests: Sequence[Request]) -> List[Tuple[str, ...]]:
     return rows
 
 
-def tables(table: Protocol) -> Dict[str, Tuple[Tuple[str, ...], List[Tuple[str, ...]]]]:
-    """The tables of FORMATS by their names, each with its head."""
+# A table of a page: its head, and its rows.
+Table = Tuple[Tuple[str, ...], List[Tuple[str, ...]]]
+
+
+def tables(table: Protocol) -> Dict[str, Table]:
+    """The tables of FORMATS by their names."""
     words = {kind: ", ".join(f"`{it.word}`" for it in table.requests if it.kind == kind) for kind in KINDS}
     kinds: List[Tuple[str, ...]] = [(kind, said, words[kind]) for kind, said in KINDS.items() if said]
     pushes: List[Tuple[str, ...]] = [(f'`["{it.word}",{it.form}]`', it.says) for it in table.pushes]
@@ -306,12 +316,12 @@ def row(cells: Sequence[str]) -> str:
     return "|" + "".join(f" {it} |" if it else " |" for it in cells) + "\n"
 
 
-def page(text: str, table: Protocol) -> str:
-    """FORMATS with its tables. Raises ValueError where a table's marks are missing."""
-    for name, (head, rows) in tables(table).items():
-        begin, end = f"<!-- {name}: made by tools/protocol -->\n", f"<!-- {name}: end -->\n"
+def page(name: str, text: str, made: Dict[str, Table]) -> str:
+    """A page with these tables. Raises ValueError where a table's marks are missing."""
+    for mark, (head, rows) in made.items():
+        begin, end = f"<!-- {mark}: made by tools/protocol -->\n", f"<!-- {mark}: end -->\n"
         if text.count(begin) != 1 or text.count(end) != 1:
-            raise ValueError(f"docs/FORMATS.md doesn't have once {begin.strip()} and {end.strip()}")
+            raise ValueError(f"{name} doesn't have once {begin.strip()} and {end.strip()}")
         lines = row(head) + "|" + "---|" * len(head) + "\n" + "".join(map(row, rows))
         text = f"{text.partition(begin)[0]}{begin}\n{lines}\n{end}{text.partition(end)[2]}"
     return text
@@ -320,6 +330,11 @@ def page(text: str, table: Protocol) -> str:
 def made(top: str) -> Dict[str, str]:
     """The files that are made of the table, and their texts. Raises ValueError for what is wrong with the table."""
     table = read(top)
-    with open(f"{top}/docs/FORMATS.md", encoding="utf-8") as it:
-        formats = it.read()
-    return {"clients/js/protocol.mjs": javascript(table), "clients/python/jcrdt/protocol.py": python(table), "docs/FORMATS.md": page(formats, table)}
+    options: Table = (("Argument", "What it is"), [it.row for it in table.server_options])
+    pages = {"docs/FORMATS.md": tables(table), SERVER_PAGE: {"options": options}}
+    files = {"clients/js/protocol.mjs": javascript(table), "clients/python/jcrdt/protocol.py": python(table),
+             HUB_TABLE: protocol_options.hub_table(table.hub_options, COMMENT)}
+    for name, its in pages.items():
+        with open(f"{top}/{name}", encoding="utf-8") as it:
+            files[name] = page(name, it.read(), its)
+    return files

@@ -1,7 +1,7 @@
 """What tools/protocol makes is up to date, and Rust's words, replies, refusals and limits are those of protocol.json.
 
 Rust's are read from `line_proto` (requests by their number of items, and replies), `replica_c` (what a replica answers), `json_scalar`
-(refusals), `replica_tests` (a line of each request) and the constants that the limits name. The packages name refusals by the lists that
+(refusals), `replica_tests` (a line of each request), `command_line` (options) and the constants that the limits and the options name. The packages name refusals by the lists that
 are made for them: a number by hand is a fault."""
 
 import argparse
@@ -38,7 +38,7 @@ def source(top: str, crate: str) -> str:
 
 def function(code: str, name: str) -> str:
     """The text of a function, or nothing where it isn't there."""
-    found = re.search(rf"(?ms)^(?:pub(?:\(crate\))? )?fn {name}\(.*?^}}", code)
+    found = re.search(rf"(?ms)^(?:pub(?:\(crate\))? )?fn {name}(?:<[^>]*>)?\(.*?^}}", code)
     return found[0] if found else ""
 
 
@@ -130,6 +130,25 @@ def limit_faults(top: str, table: Protocol) -> Iterator[str]:
                 yield f"{crate}: {name} is {number}, and the limit {limit.name} of protocol.json {limit.most}"
 
 
+def option_faults(top: str, table: Protocol) -> Iterator[str]:
+    """Where command_line takes other options of `serve`, or its usage text lacks one, or a constant is another number or text."""
+    code = source(top, "command_line")
+    made = function(code, "begun_command") + function(code, "server_command")
+    kinds = {"required_option": "required", "optional": "with a value", "flag": "a flag"}
+    rust = {f"--{word}, {kinds[kind]}" for kind, word in re.findall(r'\b(required_option|optional|flag)\(alloc, "([\w-]+)"\)', made)}
+    due = {f"--{it.word}, {'required' if it.is_required else 'with a value' if it.value else 'a flag'}" for it in table.server_options}
+    yield from differences("option", rust, due)
+    usage = re.search(r'(?s)const USAGE: &str = "(.*?)";', code)
+    for option in table.server_options:
+        if not re.search(rf"--{option.word}\b", usage[1] if usage else ""):
+            yield f"the usage text lacks --{option.word}"
+        for name in option.constants:
+            found = re.findall(rf'\bconst {name}: [&\w]+ = "?(\w+)"?;', code)
+            stated = option.usual if name.startswith("DEFAULT") else str(option.most)
+            yield from (f"command_line: {name} is {it}, and --{option.word} of protocol.json has {stated}"
+                        for it in found or ["nowhere"] if it.replace("_", "") != stated)
+
+
 def file_faults(top: str) -> Iterator[str]:
     """The files that aren't what tools/protocol makes."""
     for name, text in protocol_files.made(top).items():
@@ -150,7 +169,7 @@ def faults(top: str) -> Iterator[str]:
     except ValueError as fault:
         yield str(fault)
         return
-    for look in (request_faults, replica_faults, reply_faults, refusal_faults, tested_faults, limit_faults, hand_faults):
+    for look in (request_faults, replica_faults, reply_faults, refusal_faults, tested_faults, limit_faults, option_faults, hand_faults):
         yield from look(top, table)
 
 

@@ -2,13 +2,14 @@
 
 import { addressParts, MOST, pauseBy } from "./client_package.mjs";
 import { messageOf } from "./notes.mjs";
+import { OPTIONS } from "./option_table.mjs";
 import { Rights } from "./rights.mjs";
 
 /** @typedef {import("./state.mjs").State} State */
 /** @typedef {import("./guest.mjs").Guest} Guest */
 /** @typedef {{ take: (piece: any) => Iterable<string>, rest: () => Iterable<string> }} Lines */
 
-export const MOST_CLIENTS = 2000; // of each way in
+export const MOST_CLIENTS = OPTIONS.mostClients.bounds.most; // of each way in
 const END_MS = 5_000; // so long a client may take to end its side of the connection
 const MOST_BEGUN = 64; // deliveries of a client that wait for their replies together
 const ADMIT_MS = 10_000; // so long `admit` may take

@@ -14,7 +14,7 @@ import {
   within,
 } from "./support.mjs";
 import { tooLong } from "../../js/test/support.mjs";
-import { OPTIONS } from "../lib/options.mjs";
+import { OPTIONS } from "../lib/option_table.mjs";
 
 const PACKAGE = fileURLToPath(new URL("../", import.meta.url));
 const TOP = fileURLToPath(new URL("../../../", import.meta.url));
