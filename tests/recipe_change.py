@@ -126,22 +126,17 @@ DISCARD = """    /// Drops the operation that is held under an id, if one is. Al
 ANSWERS = """use Rattle.std.proofs.Common.{refl, ap, inl}
 use Rattle.doc_api.specs.declared.ask.Command.TheVariants as command
 use Rattle.doc_api.specs.declared.reply.Reply.TheVariants as reply
-use Rattle.doc_rules.specs.Events.{Does}
 use Rattle.replica_core.specs.Whole.{replica_with}
 use Rattle.replica_core.proofs.Keeping.{whole_next}
 use Rattle.replica_core.proofs.replica.Replica.discard.Goals as goal
 
-does : (c : goal.At-remove)
-    → Does (replica_with c.self.inside.name c.self.inside.body) (command.Discard c.args.id) reply.Discarded
-    (replica_with c.self.inside.name c.remove.new.self)
-does c = (refl, ap (replica_with c.self.inside.name) c.remove.ensures.rest)
-
 pub invariant_of-self : goal.invariant_of-self
 invariant_of-self c =
-    whole_next c.self.inside.name c.self.inside.body c.remove.new.self (command.Discard c.args.id) reply.Discarded c.self.invariant tt (inl (does c))
+    whole_next c.self.inside.name c.self.inside.body c.remove.new.self (command.Discard c.args.id) reply.Discarded c.self.invariant tt
+    (inl (refl, ap (replica_with c.self.inside.name) c.remove.ensures.rest))
 
 pub returns : goal.returns
-returns c = rw (← c.self.view_is) (does c)
+returns c = rw (← c.self.view_is) (refl, ap (replica_with c.self.inside.name) c.remove.ensures.rest)
 """
 SERVED = """
 pub returns-in-Discard : goal.returns-in-Discard

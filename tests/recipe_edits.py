@@ -149,7 +149,7 @@ LOOK = [
     Edit("look", 13, "crates/replica_core/src/read.rt", ["look_at"], [
         behind("        Look::Sum => sum_reply(sum(tree, cursor)),\n", "        Look::Total => total_reply(sum(tree, cursor)),\n"), ("\nfn sum_reply(", TOTAL_REPLY)]),
     Edit("look", 13, "crates/replica_core/proofs/read/look_at/Answers.antt", ["look_at"], [
-        ("c.args.cursor.now c.sum.result c.sum.ensures.reading))\n", "c.args.cursor.now c.sum-in-Sum.result c.sum-in-Sum.ensures.reading))\n" + TOTAL_ANSWER)]),
+        behind("c.args.cursor.now c.sum.result c.sum.ensures.reading))\n", TOTAL_ANSWER)]),
 ]
 
 # ---- A reading of the document without a cursor.
