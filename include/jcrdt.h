@@ -77,7 +77,7 @@ extern "C" {
 
 /* The version of this header, MAJOR.MINOR.PATCH. Within one MAJOR no call, form or number changes its
    meaning, and the shared library's name keeps its number: libjcrdt.so.1. */
-#define JCRDT_VERSION "1.4.2"
+#define JCRDT_VERSION "1.4.3"
 
 /* The version of the library: a text that is there as long as the program. It differs from JCRDT_VERSION
    where the program was compiled for another one. */

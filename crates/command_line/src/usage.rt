@@ -30,7 +30,7 @@ pub const USAGE: &str = "usage: jcrdt run [--name NAME] DOC..\n\
 
 /// The program, its version as in the file VERSION, and the commit of the sources that it was
 /// released from. `tools/release` refuses another one.
-pub const VERSION: &str = "jcrdt 1.4.2 (commit aadeec9d6264)";
+pub const VERSION: &str = "jcrdt 1.4.3 (commit 0f629a74598f)";
 
 /// The message where memory runs out before anything was asked for.
 pub const NO_MEMORY: &str = "jcrdt: out of memory while the command line was read";
